@@ -74,6 +74,8 @@ interface Account {
   }[];
   rest: { after: number; text: string | null };
   nothing: string | null;
+  /** Where the run begins in a window: when and why that was written. */
+  window?: { text: string };
   waiting: { text: string; since: number; actor?: number; channel?: number; handle?: number; location?: [string, number, number] | null }[];
   failure: number | null;
   look: number;
@@ -140,6 +142,9 @@ interface Loss {
   lost: number;
   end: "told" | "dropped" | "open";
   to: number;
+  /** How many of the values were overwritten before the window, really and by its lead. */
+  before?: number;
+  here?: number;
 }
 
 /** What is opened: a file's name and bytes, and those of its file of names. */

@@ -347,7 +347,8 @@ ANSWER = """(() => {
 def check_answer_text(tab, account):
     """The page shows the account, open."""
     answer = tab.run(ANSWER)
-    unknown = [f"not all is known: {'; '.join(account['unknown'])}"] if account["unknown"] else []
+    window = [account["window"]["text"]] if "window" in account else []
+    unknown = window + [f"not all is known: {'; '.join(account['unknown'])}"] if account["unknown"] else []
     assert answer == {
         "isOpen": True, "facts": [fact["text"] for fact in account["facts"]], "waits": [f"  {it['text']}" for it in account["waiting"]],
         "others": unknown + ([account["nothing"]] if account["nothing"] else []), "rest": account["rest"]["text"],

@@ -27,6 +27,13 @@ def record(script):
         return answer(["record", file.name])
 
 
+def check(journal):
+    with tempfile.NamedTemporaryFile() as file:
+        file.write(journal)
+        file.flush()
+        return answer(["check", file.name]).decode()
+
+
 def debug(journal, commands):
     with tempfile.NamedTemporaryFile() as file:
         file.write(journal)

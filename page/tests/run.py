@@ -31,6 +31,7 @@ import story
 import texts
 import weak
 import wheel_and_stop
+import windows
 from browser import Browser, Tab
 
 
@@ -56,7 +57,7 @@ TESTS = [
     jumps.picture_as_png, jumps.picture_as_svg, jumps.report_as_markdown, jumps.help_of_keys, jumps.zoom_at_pointer, jumps.touch,
     hands.waiting_script, hands.refusals, hands.example, hands.files_that_are_not_there, hands.addresses, shown.large_runs,
     shown.quick_walking, shown.many_handles, weak.weak_senders, weak.weak_rows, texts.large_numbers, texts.long_texts, speed.figures,
-    *losses.TESTS, *lives.TESTS, *sources.TESTS, *failing.TESTS, *accounts.TESTS, *layout.TESTS, *search.TESTS, *story.TESTS, *against.TESTS, *lowered.TESTS,
+    *losses.TESTS, *lives.TESTS, *sources.TESTS, *failing.TESTS, *accounts.TESTS, *layout.TESTS, *search.TESTS, *story.TESTS, *against.TESTS, *windows.TESTS, *lowered.TESTS,
     beginning.first_calls, beginning.far_places, beginning.late_faults,
     bare(answers.example_sessions), bare(answers.random_commands), bare(answers.spoiled_texts),
 ]

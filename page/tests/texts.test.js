@@ -63,7 +63,8 @@ test("names are read, and refused with a reason", () => {
   assert.deepStrictEqual([made.madeBy, made.unnamed], [{}, []]);
   assert.deepStrictEqual(readNames('{"actors": {}, "made_by": {"1": [null, 2]}, "unnamed": [3]}').tables.madeBy, { 1: [null, 2] });
   for (const [text, fault] of [
-    ["[]", /no object/], ['{"version": 4}', /version 4/], ['{"x": 1}', /none of the keys/], ['{"actors": {"0": 1}}', /actors are no names/],
-    ['{"values": {"0": {"1": 2}}}', /values are no texts/],
+    ["[]", /no object/], ['{"version": 5}', /version 5/], ['{"x": 1}', /none of the keys/], ['{"actors": {"0": 1}}', /actors are no names/],
+    ['{"values": {"0": {"1": 2}}}', /values are no texts/], ['{"window": {"reason": "x", "at": null, "lead": -1, "channels": {}}}', /window has no/],
+    ['{"times": [[1, 2]]}', /times are no lists/],
   ]) assert.throws(() => readNames(text), fault);
 });

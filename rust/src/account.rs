@@ -19,10 +19,14 @@ mod rest;
 mod saying;
 #[cfg(test)]
 mod tests;
+mod times;
 mod unknown;
 pub(crate) mod visible;
 mod waits;
 mod watches;
+mod window;
+#[cfg(test)]
+mod windowed;
 
 pub(crate) use fact::{Fact, FactStep, Role};
 pub(crate) use rest::Rest;
@@ -35,6 +39,8 @@ use failure::{Failure, FailureAt};
 use finding::Finding;
 use history::History;
 use naming::Naming;
+use times::Times;
+use window::WindowSaid;
 
 /// How many facts a report tells in full. The others are counted.
 pub(crate) const MOST_TOLD: usize = 3;
@@ -48,6 +54,7 @@ struct Context<'a> {
     names: &'a Names,
     history: &'a History,
     naming: &'a Naming<'a>,
+    times: Times<'a>,
     failure: &'a Failure,
     findings: &'a Findings,
 }
@@ -58,17 +65,43 @@ impl Context<'_> {
     fn step(&self, place: u64, role: Role, what: String, said: String) -> FactStep {
         let entry = self.run.entry(place);
         let location = self.naming.call_source(entry.channel, place);
+        let time = self.times.at(entry.stamp);
+        let said = match time {
+            Some(time) if said.is_empty() => time.text(),
+            Some(time) => format!("{said}; {}", time.text()),
+            None => said,
+        };
         FactStep {
             place,
             role,
             actor: Some(entry.actor.into()),
             location: location.cloned(),
+            time,
             cells: [
                 visible::call(place),
                 what,
                 self.naming.actor(entry.actor.into()),
                 location.map_or(String::new(), visible::line_of),
                 said,
+            ],
+        }
+    }
+
+    /// Returns what caused a fact before the window as its step: at the place where that begins.
+    fn step_before(&self, what: String) -> FactStep {
+        let nothing = String::new;
+        FactStep {
+            place: self.history.lead,
+            role: Role::Cause,
+            actor: None,
+            location: None,
+            time: None,
+            cells: [
+                window::BEFORE.to_string(),
+                what,
+                nothing(),
+                nothing(),
+                nothing(),
             ],
         }
     }
@@ -82,6 +115,7 @@ impl Context<'_> {
             role: Role::Failure,
             actor: failure.actor,
             location: location.cloned(),
+            time: None,
             cells: [
                 failure.name.to_string(),
                 what,
@@ -100,6 +134,7 @@ impl Context<'_> {
             role: Role::End,
             actor: None,
             location: None,
+            time: None,
             cells: ["the end".to_string(), what, nothing(), nothing(), said],
         }
     }
@@ -111,6 +146,8 @@ pub(crate) struct Account {
     /// How many calls and channels the run has.
     calls: u64,
     channels: u64,
+    /// Where the run begins in a window, what is said of that.
+    pub(crate) window: Option<WindowSaid>,
     /// Why not all of the run is known.
     pub(crate) unknown: Vec<String>,
     /// The facts in their order, as many as have words.
@@ -161,6 +198,7 @@ impl Account {
             names,
             history,
             naming: &Naming::new(names, history),
+            times: Times::of(names),
             failure: &Failure::of(run, names, history),
             findings,
         };
@@ -170,19 +208,20 @@ impl Account {
         let facts: Vec<_> = worded.map(|finding| finding.fact(&context)).collect();
         let failure = context.failure.end().map(|end| end.place);
         Account {
-            calls: run.len(),
+            calls: history.calls(),
             channels: run.specs().len() as u64,
+            window: WindowSaid::of(names, run.len()),
             nothing: nothing(&context, &unknown, &facts),
             unknown,
             failure,
             look: match facts.first() {
                 Some(fact) => fact.look,
-                None => failure.unwrap_or(run.len()),
+                None => failure.unwrap_or(run.len()).max(history.first_place()),
             },
             facts,
             rest: Rest::of(&found),
             waiting: waits::all(&context),
-            losses: findings.losses().to_vec(),
+            losses: history.losses().to_vec(),
             root: names.ending.root.clone(),
         }
     }
@@ -190,10 +229,10 @@ impl Account {
 
 /// Returns what is said where no value was lost. Where not all is known, that isn't said.
 fn nothing(context: &Context<'_>, unknown: &[String], facts: &[Fact]) -> Option<String> {
-    let calls = visible::counted(context.run.len(), "call");
+    let calls = visible::counted(context.history.calls(), "call");
     let channels = visible::counted(context.run.specs().len() as u64, "channel");
     match (unknown, facts) {
-        ([], _) if context.findings.losses().is_empty() => {
+        ([], _) if context.history.losses().is_empty() => {
             Some(format!("no value was lost in {calls} on {channels}"))
         }
         ([_, ..], []) => Some(format!("nothing was found in {calls} on {channels}")),

@@ -83,12 +83,14 @@ impl Report {
         levels.zip(&account.facts)
     }
 
-    /// Returns the line that says what isn't known.
+    /// Returns the lines that say why there is a dump, and what isn't known.
     fn before_facts(&self) -> Vec<String> {
         let Report(account) = self;
+        let window = account.window.iter();
+        let window = window.map(|window| format!("yovanelum: {}", window.text));
         let why = account.unknown.join("; ");
         let line = format!("yovanelum: not all is known: {why}");
-        Vec::from_iter((!why.is_empty()).then_some(line))
+        window.chain((!why.is_empty()).then_some(line)).collect()
     }
 
     /// Returns the lines of the other facts, of what was not found, and of the calls that wait.

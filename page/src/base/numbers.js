@@ -17,6 +17,6 @@ export function countOf(number, one, many = `${one}s`) {
 }
 
 // Since when a call waits, by how many calls had been made.
-export function sinceText(place) {
-  return place === 0 ? "the start" : `call ${grouped(place)}`;
+export function sinceText(place, lead = 0) {
+  return place === lead && lead > 0 ? "before the window" : place === 0 ? "the start" : `call ${grouped(place)}`;
 }

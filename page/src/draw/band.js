@@ -38,7 +38,7 @@ function drawRows({ pen, run, frame, band, palette }) {
 
 // Names each handle in view at the start of its line in the row. Far out, names that are wider than the line are left out. Of the very many there
 // may be, measuring each would be slow, and digits are of one width.
-function drawSharedNames({ pen, view, frame, palette }, row) {
+function drawSharedNames({ pen, run, view, frame, band, palette }, row) {
   pen.font = SMALL_BOLD;
   const digit = pen.measureText("0").width;
   pen.textAlign = "left";
@@ -47,7 +47,8 @@ function drawSharedNames({ pen, view, frame, palette }, row) {
     if (life.from > view.to || life.to < view.from) continue;
     const x = Math.max(frame.left, frame.x(life.from));
     const room = Math.min(frame.right, frame.x(life.to)) - x;
-    if (frame.isNear || String(life.handle).length * digit <= room) pen.fillText(life.handle, x, row.base + 9);
+    const number = run.numberOf(band.channel, life.handle);
+    if (frame.isNear || number.length * digit <= room) pen.fillText(number, x, row.base + 9);
   }
 }
 

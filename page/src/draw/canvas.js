@@ -75,6 +75,14 @@ export function hatched(pen, palette, x, y, width, height) {
   slanted(pen, { x, y, width, height, ground: palette.hatch, colour: palette["hatch-line"], thickness: 2, step: 8 });
 }
 
+// Greys a box out, as what was before a window.
+export function drawBefore(pen, palette, x, y, width, height) {
+  pen.globalAlpha = 0.35;
+  pen.fillStyle = palette.mute;
+  pen.fillRect(x, y, width, height);
+  pen.globalAlpha = 1;
+}
+
 // Draws a small flag with a text, centred on x and between two edges.
 export function flag(pen, text, { x, y, colour, ink, least, most }) {
   pen.font = SMALL_BOLD;

@@ -14,21 +14,22 @@ const GAP = 5;
 const RING = 8;
 
 // The words about a receiver, from right to left, each with its colour and font.
-function wordsOf(channel, receiver, palette) {
+function wordsOf(run, index, channel, receiver, palette) {
   if (channel.kind === "watch") {
-    return [[standingOf(channel, receiver).replace("has ", ""), receiver.seen ? palette.mute : palette["unseen-ink"], SMALL]];
+    const said = run.isWindow(index) ? (receiver.seen ? "seen" : "unseen") : standingOf(channel, receiver, false).replace("has ", "");
+    return [[said, receiver.seen ? palette.mute : palette["unseen-ink"], SMALL]];
   }
   const readable = receiver.unread - receiver.lag;
   const words = [[String(readable), readable ? palette["unread-ink"] : palette.mute, SMALL]];
-  if (receiver.lag) words.push([`−${receiver.lag}`, palette["lag-ink"], SMALL_BOLD]);
+  if (receiver.lag) words.push([`−${run.lagOf(index, receiver)}`, palette["lag-ink"], SMALL_BOLD]);
   return words;
 }
 
-function drawStanding({ pen, frame, palette }, channel, receiver, row) {
+function drawStanding({ pen, run, frame, palette }, index, channel, receiver, row) {
   let x = (frame.left || frame.width) - EDGE;
   const y = frame.left ? row.y + row.height / 2 : row.y + 8;
   pen.textAlign = "right";
-  for (const [text, colour, font] of wordsOf(channel, receiver, palette)) {
+  for (const [text, colour, font] of wordsOf(run, index, channel, receiver, palette)) {
     pen.font = font;
     pen.fillStyle = colour;
     pen.fillText(text, x, y);
@@ -55,7 +56,7 @@ function drawStandings(drawing, state) {
     const channel = state.channels[band.channel];
     for (const receiver of channel.receivers) {
       const row = band.rowOf.get(receiver.handle);
-      if (row) drawStanding(drawing, channel, receiver, row);
+      if (row) drawStanding(drawing, band.channel, channel, receiver, row);
     }
   }
 }
@@ -75,7 +76,7 @@ function drawColumn({ pen, view, frame, top, bottom, palette }) {
 // Marks the name of the row in which the call at the place was made.
 /** @param {Drawing} drawing */
 function drawRow({ pen, run, view, frame, bands, palette }) {
-  if (view.place === 0) return;
+  if (view.place <= run.lead) return;
   const row = bands.find(band => band.channel === run.columns.channels[view.place])?.rowOf.get(run.columns.handles[view.place]);
   if (row === undefined) return;
   pen.globalAlpha = 0.3;
@@ -90,7 +91,7 @@ function drawCause({ pen, run, view, frame, bands, palette }, loss) {
   const band = bands.find(({ channel }) => channel === loss.channel);
   const from = band?.rowOf.get(run.columns.handles[loss.from]);
   const to = band?.rowOf.get(loss.receiver);
-  if (!from || !to || loss.from < view.from || loss.from > view.to) return;
+  if (!from || !to || loss.from <= run.lead || loss.from < view.from || loss.from > view.to) return;
   const x = frame.middle(loss.from);
   pen.strokeStyle = palette.lag;
   pen.lineWidth = 1.5;

@@ -8,7 +8,7 @@ const MANY_CHANNELS = 24;
 // What is folded at first: very many actors, and of very many channels those that lost nothing.
 function firstKeys(run) {
   const quiet = [...run.channels.keys()].filter(channel => run.losses.sums[channel].lost === 0);
-  return [...(run.channels.length > MANY_CHANNELS ? quiet : []), ...(run.actorCount > MANY_ACTORS ? [ACTORS] : [])];
+  return [...(run.channels.length > MANY_CHANNELS ? quiet : []), ...(run.callerCount > MANY_ACTORS ? [ACTORS] : [])];
 }
 
 export class Folds {

@@ -21,7 +21,7 @@ export function headY({ y, height }, top) {
 }
 
 function wordsOf({ run, frame, band }) {
-  if (band.key === ACTORS) return [countOf(run.actorCount, "actor"), band.isFolded ? "folded" : "the calls of each"];
+  if (band.key === ACTORS) return [countOf(run.callerCount, "actor"), band.isFolded ? "folded" : "the calls of each"];
   const receivers = run.isBeginning ? [] : [countOf(run.receiverCounts[band.channel], "receiver")];
   // Without room beside the names, that it is closed is said here.
   const closed = frame.left === 0 && run.closings.places[band.channel] !== null ? ["closed"] : [];

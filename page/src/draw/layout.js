@@ -40,22 +40,22 @@ function rowsOfKind(lives, kind) {
   return those.length > MANY_HANDLES ? sharedRows(those, kind) : those.map(life => ({ kind, lives: [life] }));
 }
 
-// Returns the rows of each channel, the same for every view.
+// Returns the rows of each channel, the same for every view. A handle that a window's lead alone has is none.
 export function rowsOf(run) {
-  return run.channels.map(({ kind }, channel) => [
-    ...(kind === "watch" ? [{ kind: "value", lives: [] }] : []),
-    ...KINDS.flatMap(it => rowsOfKind(run.lives[channel], it)),
-  ]);
+  return run.channels.map(({ kind }, channel) => {
+    const lives = run.lives[channel].filter(life => !run.isOfLead(life));
+    return [...(kind === "watch" ? [{ kind: "value", lives: [] }] : []), ...KINDS.flatMap(it => rowsOfKind(lives, it))];
+  });
 }
 
 // Returns the rows of a channel whose names have the text of the filter: all, if the channel's name has it.
 function filtered(run, folds, channel, rows) {
   if (folds.matches(run.names.channel(channel))) return rows;
-  return rows.filter(({ lives }) => lives.some(life => folds.matches(`${run.ownerOf(channel, life) ?? ""} · ${life.kind} ${life.handle}`)));
+  return rows.filter(({ lives }) => lives.some(life => folds.matches(`${run.ownerOf(channel, life) ?? ""} · ${life.kind} ${run.numberOf(channel, life.handle)}`)));
 }
 
 function actorRows(run, folds) {
-  return run.actors.names.map((name, actor) => ({ kind: "actor", actor, lives: [], name })).filter(({ name }) => folds.matches(name));
+  return run.actors.names.map((name, actor) => ({ kind: "actor", actor, lives: [], name })).filter(({ actor, name }) => run.isCaller(actor) && folds.matches(name));
 }
 
 // Arranges rows below each other from `y` on. If there is no room for names beside them, they are above them.

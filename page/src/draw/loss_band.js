@@ -82,14 +82,14 @@ function drawLabel({ pen, palette }, { text, width, isInside, untold, labelX }, 
 function drawTicks({ pen, run, view, frame, palette }, loss, y, height) {
   if (!run.values.areThere) return;
   const sends = run.values.overwritten(loss.channel);
-  const first = run.losses.firstOf(loss);
+  const end = run.losses.firstOf(loss) + run.losses.countIn(loss);
   pen.fillStyle = palette["on-dark"];
   for (let i = countUpTo(sends, Math.max(loss.from, view.from - 1)); i < sends.length && sends[i] < Math.min(loss.to, view.to + 1); i++) {
     const x = Math.round(frame.x(sends[i]));
-    const next = frame.x(i + 1 < first + loss.lost ? sends[i + 1] : loss.to);
+    const next = frame.x(i + 1 < end ? sends[i + 1] : loss.to);
     pen.globalAlpha = 0.7;
     pen.fillRect(x, y + 1, 1, height - 2);
-    if (next - x > COUNT_ROOM && i + 1 < first + loss.lost) pen.fillText(String(i - first + 1), x + 3, y + height / 2 + 0.5);
+    if (next - x > COUNT_ROOM && i + 1 < end) pen.fillText(String(loss.lost - end + i + 1), x + 3, y + height / 2 + 0.5);
     pen.globalAlpha = 1;
   }
 }

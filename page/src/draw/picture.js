@@ -3,7 +3,7 @@
 import { grouped } from "../base/numbers.js";
 import { SMALL, SMALL_BOLD } from "../base/palette.js";
 import { drawBand } from "./band.js";
-import { fitted, flag, line } from "./canvas.js";
+import { drawBefore, fitted, flag, line } from "./canvas.js";
 import { ACTORS } from "./folds.js";
 import { drawHead } from "./heads.js";
 
@@ -14,6 +14,7 @@ const LABEL_EVERY = 62;
 const STEPS = [1, 2, 5];
 const MIDDLE = 10;
 const GAP = 4;
+const BEFORE = "before the window";
 
 // How many places are between two numbers on the axis.
 function axisStep(column) {
@@ -23,10 +24,11 @@ function axisStep(column) {
 }
 
 // Draws the current place as a label. Returns where it is, so that no number is drawn under it.
-function drawPlace({ pen, view, frame, palette }) {
+/** @returns {[number, number]} */
+function drawPlace({ pen, run, view, frame, palette }) {
   if (view.place < view.from || view.place > view.to) return [0, 0];
   pen.font = SMALL_BOLD;
-  const text = grouped(view.place);
+  const text = run.lead > 0 && view.place === run.lead ? BEFORE : grouped(view.place);
   const width = pen.measureText(text).width + 12;
   const middle = frame.middle(view.place);
   const left = Math.max(frame.left, Math.min(middle - width / 2, frame.width - width));
@@ -41,20 +43,31 @@ function drawPlace({ pen, view, frame, palette }) {
   return [left, left + width];
 }
 
+// Says what is at the left of a window's first call, unless the place's label is there. Returns where it is.
+/** @returns {[number, number]} */
+function drawBeforeWord({ pen, frame }, label) {
+  const end = frame.left + pen.measureText(BEFORE).width;
+  if (label[0] < end + GAP && label[1] > frame.left) return label;
+  pen.textAlign = "left";
+  pen.fillText(BEFORE, frame.left, MIDDLE);
+  return [frame.left, end];
+}
+
 export function drawAxis(drawing) {
   const { pen, run, view, frame, palette } = drawing;
-  const [left, right] = drawPlace(drawing);
+  const taken = [drawPlace(drawing)];
   const step = axisStep(frame.column);
   pen.font = SMALL;
   pen.fillStyle = palette.mute;
+  if (run.lead > 0 && view.from <= run.lead && view.place !== run.lead) taken.push(drawBeforeWord(drawing, taken[0]));
   pen.textAlign = "center";
-  for (let place = Math.ceil(view.from / step) * step; place <= Math.min(view.to, run.lastPlace); place += step) {
+  for (let place = Math.ceil(Math.max(view.from, view.least + Number(run.lead > 0)) / step) * step; place <= Math.min(view.to, run.lastPlace); place += step) {
     const text = grouped(place);
     const half = pen.measureText(text).width / 2;
     const x = frame.middle(place);
     pen.fillRect(x, AXIS_HEIGHT - 4, 1, 4);
     const middle = Math.max(frame.left + half, Math.min(x, frame.width - half - 2));
-    if (middle + half + GAP < left || middle - half - GAP > right) pen.fillText(text, middle, MIDDLE);
+    if (taken.every(([left, right]) => middle + half + GAP < left || middle - half - GAP > right)) pen.fillText(text, middle, MIDDLE);
   }
   if (frame.left === 0) return;
   pen.textAlign = "right";
@@ -140,6 +153,14 @@ function drawNothing({ pen, folds, palette }) {
   pen.fillText(`no row has “${folds.filter}” in its name`, 20, 30);
 }
 
+// The lead is grey: of a window, the column at its beginning, and its own calls where the place is in it.
+/** @param {Drawing} drawing */
+function drawLead({ pen, run, view, frame, top, bottom, palette }) {
+  if (run.lead === 0 || view.from > run.lead) return;
+  const x = frame.x(view.from);
+  drawBefore(pen, palette, x, top, frame.x(Math.min(run.lead, view.to) + 1) - x, bottom - top);
+}
+
 // `drawing` has the pen, the run, the view, its frame, the bands in sight, how far the rows are scrolled, the places whose states are drawn,
 // the actors' dots, the folds and the palette. The pen's heights are those of the layout.
 export function drawPicture(drawing) {
@@ -153,6 +174,7 @@ export function drawPicture(drawing) {
     }
   }
   drawWaits(drawing);
+  drawLead(drawing);
   for (const band of drawing.bands) drawHead({ ...drawing, band });
   if (drawing.bands.length === 0) drawNothing(drawing);
 }

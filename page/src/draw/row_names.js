@@ -15,7 +15,7 @@ const VERSIONS = 98;
 const DIGIT = 20;
 
 function standingWidth(run, channel) {
-  if (run.channels[channel].kind === "broadcast") return TO_READ;
+  if (run.channels[channel].kind === "broadcast" || run.isWindow(channel)) return TO_READ;
   return VERSIONS + DIGIT * (String(run.ending.channels[channel].version).length - 1);
 }
 
@@ -38,8 +38,8 @@ export function drawPlainName(drawing, row, text) {
 function cutName({ pen, run, band: { channel } }, life, width) {
   const owner = run.ownerOf(channel, life);
   const separator = owner ? " · " : "";
-  const isShort = pen.measureText(`${separator}${life.kind} ${life.handle}`).width > width * 0.7;
-  const tail = `${separator}${isShort ? "" : `${life.kind} `}${life.handle}`;
+  const isShort = pen.measureText(`${separator}${life.kind} ${run.numberOf(channel, life.handle)}`).width > width * 0.7;
+  const tail = `${separator}${isShort ? "" : `${life.kind} `}${run.numberOf(channel, life.handle)}`;
   return (owner ? isolated(fitted(pen, owner, width - pen.measureText(tail).width)) : "") + tail;
 }
 
@@ -60,7 +60,7 @@ export function drawRowName(drawing, row, life) {
 // The same as elements.
 export function rowName(run, channel, life) {
   const owner = run.ownerOf(channel, life);
-  const number = element("span", { "data-handle": life.handle }, `${life.kind} ${life.handle}`);
+  const number = element("span", { "data-handle": life.handle }, `${life.kind} ${run.numberOf(channel, life.handle)}`);
   const badge = life.user === null ? [] : [run.actors.badge(life.user), " "];
   return owner ? [...badge, outside(owner), " · ", number] : [number];
 }

@@ -55,7 +55,7 @@ export class Screen {
 
   // The levels of what is in view.
   get inView() {
-    return this.view.width === this.view.lastColumn ? this.whole : this.levels;
+    return this.view.isWhole ? this.whole : this.levels;
   }
 
   // The channels in sight whose levels aren't loaded, for so many places in view that their states aren't drawn one by one. Those of the whole
@@ -81,7 +81,7 @@ export class Screen {
     byId("strip-box").style.maxHeight = `${cap}px`;
     this.strip = {
       cap, run: this.run, view: this.view, palette: this.palette, height: stripHeight(this.run),
-      frame: new Frame(0, this.view.lastColumn, this.width, stripGutterOf(this.width), this.isNarrow && this.run.losses.all.length ? COUNTS : undefined),
+      frame: new Frame(this.view.first, this.view.lastColumn, this.width, stripGutterOf(this.width), this.isNarrow && this.run.losses.all.length ? COUNTS : undefined),
     };
     this.drawStrip();
     this.arrange();

@@ -14,12 +14,14 @@ const LABEL = 14;
 export function storyOf(run, loss) {
   const { channel, receiver, from, to, end } = loss;
   const { handles } = run.columns;
+  const ended = end === "open" ? [] : [{ place: to, handle: receiver, word: end === "told" ? "told" : "dropped" }];
+  if (from <= run.lead) return [{ place: run.lead, handle: receiver, word: "overwritten before the window" }, ...ended];
   const sent = run.values.sendOf(channel, run.losses.firstOf(loss));
   const received = lastReceived(run, loss, run.lifeOf(channel, receiver).from);
   return [
     { place: sent, handle: handles[sent], word: "sent" }, { place: from, handle: handles[from], word: "overwrote it" },
     ...(received ? [{ place: received, handle: receiver, word: "last receive" }] : []),
-    ...(end === "open" ? [] : [{ place: to, handle: receiver, word: end === "told" ? "told" : "dropped" }]),
+    ...ended,
   ];
 }
 

@@ -2,7 +2,7 @@
 
 import { grouped } from "../base/numbers.js";
 import { CODE, SMALL } from "../base/palette.js";
-import { fitted, hatched } from "./canvas.js";
+import { drawBefore, fitted, hatched } from "./canvas.js";
 import { drawStretch, stretchOf, uncovered } from "./loss_band.js";
 
 const ROW = 13;
@@ -11,6 +11,7 @@ const FEW = 4;
 const GAP = 2;
 const TOP = 2;
 const LEAST_UNTOLD = 5;
+const LEAST_BEFORE = 4;
 
 // At the right of the names: how much was lost, and a sign where some of it was never told.
 const COUNT = 78;
@@ -87,10 +88,11 @@ export function drawStrip(drawing) {
     pen.fillRect(frame.left, row.y, frame.right - frame.left, row.bar);
     const closing = run.closings.places[channel];
     if (whole.tables.has(channel)) drawLevels(drawing, channel, row);
-    if (closing !== null) hatched(pen, palette, frame.x(closing), row.y, frame.right - frame.x(closing), row.bar);
+    if (closing !== null) hatched(pen, palette, Math.max(frame.left, frame.x(closing)), row.y, frame.right - Math.max(frame.left, frame.x(closing)), row.bar);
     drawLosses(drawing, channel, row);
     drawLostCount(drawing, channel, isNarrow ? frame.width - 2 : frame.left - SIGN.right, middle);
   });
+  if (run.lead > 0) drawBefore(pen, palette, frame.left, 0, Math.max(frame.x(run.lead + 1) - frame.left, LEAST_BEFORE), stripHeight(run));
 }
 
 // Marks the hits of a search in the lower half, so that the place is seen above them. Those on one point are marked once.
@@ -107,7 +109,7 @@ function drawHits({ pen, frame, palette, height, hits }) {
 // Draws the part in view, the place, and the hits of a search.
 export function drawStripCursor(drawing) {
   const { pen, view, frame, palette, height } = drawing;
-  const x = frame.x(view.from);
+  const x = Math.max(frame.left, frame.x(view.from));
   const width = Math.max(frame.x(view.to + 1) - x, 3);
   pen.globalAlpha = 0.1;
   pen.fillStyle = palette.frame;
@@ -117,6 +119,6 @@ export function drawStripCursor(drawing) {
   pen.lineWidth = 1.5;
   pen.strokeRect(x, 1, width, height - 2);
   pen.fillStyle = palette["place-line"];
-  pen.fillRect(frame.middle(view.place) - 1, 0, 2, height);
+  pen.fillRect(Math.max(frame.left, frame.middle(view.place)) - 1, 0, 2, height);
   drawHits(drawing);
 }

@@ -1,4 +1,5 @@
-// Which places are in view, and which of them is the place. A run that ends in a call that would wait has one more column.
+// Which places are in view, and which of them is the place. A run that ends in a call that would wait has one more column. The lead of a window is in
+// view only where the place is in it.
 
 import { gutterOf } from "./frame.js";
 
@@ -30,11 +31,24 @@ function within(least, number, most) {
 export class View {
   // The place and the columns are those of `shown`.
   /** @param {import("../run/shown.js").Shown} shown */
-  constructor(lastPlace, lastColumn, width, shown) {
+  constructor(lastPlace, lastColumn, width, shown, first = 0) {
     this.lastPlace = lastPlace;
     this.lastColumn = lastColumn;
+    // The place at which the window begins, or 0.
+    this.first = first;
     this.shown = shown;
-    shown.to = Math.min(lastColumn, width);
+    shown.place = shown.from = first;
+    shown.to = Math.min(lastColumn, first + width);
+  }
+
+  // The first column that may be in view.
+  get least() {
+    return this.place < this.first ? 0 : this.first;
+  }
+
+  // Whether all but the lead is in view.
+  get isWhole() {
+    return this.from === this.first && this.to === this.lastColumn;
   }
 
   get place() {
@@ -56,7 +70,7 @@ export class View {
   // Goes to a place, and brings it into view.
   go(place) {
     this.shown.place = within(0, place, this.lastPlace);
-    if (this.place < this.from || this.place > this.to) this.centre(this.place);
+    if (this.place < this.from || this.place > this.to || this.from < this.least) this.centre(this.place);
   }
 
   centre(column) {
@@ -65,8 +79,9 @@ export class View {
 
   // Brings this many columns into view, from this one on, as far as the run has them.
   show(from, width) {
-    const most = within(Math.min(FEWEST, this.lastColumn), width, this.lastColumn);
-    this.shown.from = within(0, from, this.lastColumn - most);
+    const columns = this.lastColumn - this.least;
+    const most = within(Math.min(FEWEST, columns), width, columns);
+    this.shown.from = within(this.least, from, this.lastColumn - most);
     this.shown.to = this.from + most;
   }
 
@@ -97,7 +112,7 @@ export class View {
   }
 
   whole() {
-    this.show(0, this.lastColumn);
+    this.show(this.least, this.lastColumn);
   }
 
   get stride() {
@@ -106,7 +121,7 @@ export class View {
 
   // What is in view when the whole run is: from which column, to which, and the stride.
   get all() {
-    return { from: 0, to: this.lastColumn, stride: strideOf(this.lastColumn) };
+    return { from: this.first, to: this.lastColumn, stride: strideOf(this.lastColumn - this.first) };
   }
 
   // The places whose states are drawn: all in view, unless they are very many.

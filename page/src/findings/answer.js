@@ -5,8 +5,8 @@
 import { byId, element, quoted } from "../base/dom.js";
 import { countOf, grouped } from "../base/numbers.js";
 import { visible } from "../base/text.js";
-import { MARK_NAMES } from "../run/marks.js";
 import { sourceLink } from "./source_links.js";
+import { unlookedBy } from "./unlooked.js";
 
 // How many panics are shown, and how many characters of what one says.
 const MOST_ENDS = 3;
@@ -14,10 +14,9 @@ const MOST_TEXT = 300;
 
 // How many changes are listed that a receiver never looked at.
 const MOST_CHANGES = 3;
-const SENT = MARK_NAMES.indexOf("sent");
 
 // What the line of a call begins with. Accounts of earlier versions say `step 3`.
-const STEP = /^ {2}((?:call|step) \d+|the panic|the error|the end)/;
+const STEP = /^ {2}((?:call|step) \d+|before the window|the panic|the error|the end)/;
 
 // A text with the place in the sources that stands in it as a link, after what is before it in its line.
 function withSource(run, text, place, before) {
@@ -41,20 +40,6 @@ function lineOf(run, fact, text, index) {
   const parts = name ? ["  ", toPlace(step.place, name, fact), ...withSource(run, text.slice(2 + name.length), step.location, "  ")]
     : [index === 0 ? element("b", {}, visible(text)) : visible(text)];
   return element("bdi", { class: name ? "line step" : "line" }, ...parts);
-}
-
-// The calls that changed a watch while this receiver lived, and at whose values it never looked.
-function unlookedBy(run, channel, receiver) {
-  const { channels, handles, marks } = run.columns;
-  const { from, to } = run.lifeOf(channel, receiver);
-  const changes = new Set();
-  let last = 0;
-  for (let place = from + 1; place <= Math.min(to, run.lastPlace); place++) {
-    if (channels[place] !== channel) continue;
-    if (marks[place] === SENT) changes.add(last = place);
-    else if (handles[place] === receiver && run.entry(place).reply === "value") changes.delete(last);
-  }
-  return [...changes];
 }
 
 // The values of these changes, if they are as many as the fact says.
@@ -84,7 +69,7 @@ function factParts(run, { facts, rest }) {
 
 // A call that waits. What it waits in leads to where it began.
 function waitLine(run, { text, since, location }) {
-  const began = /^(.*? since (?:(?:call|step) \d+|the start))(.*)$/s.exec(text);
+  const began = /^(.*? since (?:(?:call|step) \d+|the start|before the window))(.*)$/s.exec(text);
   const [lead, rest] = began ? began.slice(1) : [text, ""];
   const go = element("button", { type: "button", "data-place": since, title: "go to where it began to wait" }, visible(lead));
   return element("bdi", { class: "line" }, "  ", go, ...withSource(run, rest, location, ", "));
@@ -116,7 +101,7 @@ function endsPart(run) {
     const who = actor === null ? [] : [" of ", visible(run.names.shortActor(actor))];
     const source = run.names.place(location);
     const said = typeof text !== "string" || text === "" ? [] : [": ", visible(text.slice(0, MOST_TEXT))];
-    return element("bdi", { class: "line" }, "  ", toPlace(place, place === 0 ? `${word} at the start` : `${word} after call ${place}`, {}), ...who,
+    return element("bdi", { class: "line" }, "  ", toPlace(place, place > run.lead ? `${word} after call ${place}` : `${word} at the ${place === 0 ? "start" : "window's beginning"}`, {}), ...who,
       ...(source ? [" at ", sourceLink(run, source)] : []), ...said);
   });
   return lines.length > 0 ? [element("section", { class: "ends" }, element("b", {}, "the test failed:"), ...lines)] : [];
@@ -129,6 +114,7 @@ function summaryOf({ facts, unknown, waiting }) {
 
 function accountParts(run, account) {
   return [
+    ...(account.window ? [paragraph(visible(account.window.text))] : []),
     ...(account.unknown.length > 0 ? [paragraph(element("b", {}, "not all is known: "), visible(account.unknown.join("; ")))] : []),
     ...factParts(run, account),
     ...(account.nothing === null ? [] : [paragraph(visible(account.nothing))]),

@@ -55,12 +55,12 @@ export function conditionsAt(state, run) {
   state.channels.forEach((channel, index) => {
     const name = isolated(names.channel(index));
     for (const { handle } of channel.receivers.slice(0, MOST_RECEIVERS)) {
-      if (channel.kind === "broadcast") offers.push([`lagging ${index} ${handle}`, `receiver ${handle} of ${name} begins to lag`]);
-      else offers.push([`unseen ${index} ${handle}`, `receiver ${handle} of ${name} has a value that it hasn't seen`]);
+      if (channel.kind === "broadcast") offers.push([`lagging ${index} ${handle}`, `receiver ${run.numberOf(index, handle)} of ${name} begins to lag`]);
+      else offers.push([`unseen ${index} ${handle}`, `receiver ${run.numberOf(index, handle)} of ${name} has a value that it hasn't seen`]);
     }
     offers.push([`closed ${index}`, `${name} is closed`]);
     if (channel.kind === "broadcast") offers.push([`queue ${index} ${channel.capacity}`, `${name} is full`]);
   });
-  for (let actor = 0; actor < run.actorCount; actor++) offers.push([`actor ${actor}`, `a call of ${isolated(names.actor(actor))}`]);
+  for (let actor = 0; actor < run.actorCount; actor++) if (run.isCaller(actor)) offers.push([`actor ${actor}`, `a call of ${isolated(names.actor(actor))}`]);
   return offers;
 }

@@ -35,6 +35,7 @@ function sourceOf(run, place) {
 }
 
 function cause(run, loss) {
+  if (loss.from <= run.lead) return part("cause", "the overwriting began before the window");
   const { capacity } = run.channels[loss.channel];
   const { actor } = run.entry(loss.from);
   return part("cause", toPlace(loss.from, "C"), " ", ...who(run, actor), ...sourceOf(run, loss.from), " sent ", quoted(run.valueSent(loss.from)),
@@ -47,7 +48,9 @@ function values(run, loss, place, isAll) {
     element("li", { class: overwritten > place ? "mute" : "" }, element("span", { class: "box", title: text }, outside(text)),
       element("button", { type: "button", "data-place": overwritten, title: `sent by call ${grouped(sent)}, overwritten by call ${grouped(overwritten)}` },
         `✕ ${grouped(overwritten)}`)));
-  const left = loss.lost - shown.length;
+  const { before = 0 } = loss;
+  const left = loss.lost - before - shown.length;
+  if (before > 0) shown.unshift(element("li", { class: "mute" }, `${grouped(before)} overwritten before the window`));
   if (left > 0 && !isAll) shown.push(element("li", {}, element("button", { type: "button", "data-loss": "all" }, `all ${grouped(loss.lost)}`)));
   else if (left > 0) shown.push(element("li", {}, `and ${grouped(left)} more`));
   return part("values", element("ol", { class: isAll ? "lost all" : "lost" }, ...shown));
@@ -58,14 +61,14 @@ function reader(run, loss) {
   const others = run.losses.sharing(loss);
   const named = others.slice(0, MOST_NAMED).flatMap(it => ["; ", ...rowName(run, it.channel, run.lifeOf(it.channel, it.receiver))]);
   const more = others.length > MOST_NAMED ? ` and ${grouped(others.length - MOST_NAMED)} more` : "";
-  return part("reader", ...(received ? ["last received at ", toPlace(received)] : ["had received nothing yet"]),
+  return part("reader", ...(received ? ["last received at ", toPlace(received)] : [loss.from <= run.lead ? "what it received before the window isn't known" : "had received nothing yet"]),
     ...(others.length ? [element("span", { class: "lag" }, ...named, more), " lost some of them too"] : []));
 }
 
 function end(run, loss) {
   if (loss.end === "open") return part("end", "the run ends, and nobody was told");
   const { actor } = run.entry(loss.to);
-  const next = run.losses.firstOf(loss) + loss.lost;
+  const next = run.losses.firstOf(loss) + run.losses.countIn(loss);
   const told = loss.end === "told" ? [` lagged by ${loss.lost}, and goes on with `, quoted(run.values.text(loss.channel, next))]
     : [run.losses.isUnwound(loss) ? " dropped it after the test failed" : " dropped it: nobody was ever told"];
   return part("end", toPlace(loss.to, "E"), " ", ...who(run, actor), ...sourceOf(run, loss.to), ...told);
@@ -88,6 +91,7 @@ export function lossCard(run, here, place, isAll) {
 
 // The same in one line, for a narrow screen.
 export function lossPeek(run, [loss]) {
+  const [first] = run.losses.valuesOf(loss, 1);
   return [element("b", {}, outside(run.titleOf(loss.channel, loss.receiver)), ` lost ${grouped(loss.lost)}`), ` · ${word(run, loss)} · `,
-    quoted(run.losses.valuesOf(loss, 1)[0].text)];
+    first === undefined ? "overwritten before the window" : quoted(first.text)];
 }

@@ -3,6 +3,7 @@
 import { countOf, grouped, sinceText } from "../base/numbers.js";
 import { visible } from "../base/text.js";
 import { versionOf } from "../run/versions.js";
+import { unlookedBy } from "./unlooked.js";
 
 // Where a receiver was told that its channel is closed, or that it was created after that, or null.
 function closedFor(run, channel, life) {
@@ -18,10 +19,10 @@ function endingOf(run, channel, life, state) {
   const { waiting } = run.names;
   const waits = waiting.find(it => it.channel === channel && it.handle === life.handle);
   if (life.to <= run.lastPlace) return `dropped at call ${grouped(life.to)}`;
-  if (waits) return `waits in ${visible(waits.call)} since ${sinceText(run.placeOf(waits.since))}`;
+  if (waits) return `waits in ${visible(waits.call)} since ${sinceText(run.placeOf(waits.since), run.lead)}`;
   const closed = closedFor(run, channel, life);
   if (closed !== null) return closed;
-  if (state.seen !== undefined) return versionOf(run.ending.channels[channel], state);
+  if (state.seen !== undefined) return versionOf(run.ending.channels[channel], state, run.isWindow(channel));
   return state.unread > 0 ? "open, behind" : "open";
 }
 
@@ -30,8 +31,11 @@ function endingOf(run, channel, life, state) {
 function numbersOf(losses, { received, lost, worst, worstPlace, unread }) {
   const last = losses.at(-1) ?? { end: "told", lost: 0 };
   const never = last.end === "told" ? 0 : last.lost;
+  // A receiver may really have lagged by more when the window began than its lead lets it.
+  const more = losses.reduce((sum, { before = 0, here = 0 }) => sum + before - here, 0);
+  const all = lost + more;
   return {
-    received, lost, told: lost - never, never, isHeld: received === 0 && lost > 0 && never === lost, greatest: worst, rest: unread === null ? null : unread - never,
+    received, lost: all, told: all - never, never, isHeld: received === 0 && lost > 0 && never === all, greatest: worst + more, rest: unread === null ? null : unread - never + more,
     worst: losses.find(({ from, to }) => from <= worstPlace && worstPlace < to) ?? null,
   };
 }
@@ -39,8 +43,9 @@ function numbersOf(losses, { received, lost, worst, worstPlace, unread }) {
 // As many that a receiver of a watch doesn't have.
 const NONE = { received: null, lost: null, told: null, never: null, isHeld: false, greatest: null, rest: null, worst: null };
 
-function receiverOf(run, { channel, receiver, counts, unlooked }, state) {
+function receiverOf(run, { channel, receiver, counts, unlooked: all }, state) {
   const life = run.lifeOf(channel, receiver);
+  const unlooked = all && run.lead > 0 ? unlookedBy(run, channel, receiver).length : all;
   return {
     channel, life, name: run.names.channel(channel),
     get title() {
@@ -57,5 +62,6 @@ function receiverOf(run, { channel, receiver, counts, unlooked }, state) {
 // Returns every receiver that the run's channels had, by channel, and then by its number.
 export function receiversOf(run) {
   const states = run.ending.channels.map(({ receivers }) => new Map(receivers.map(state => [state.handle, state])));
-  return run.totals.map(totals => receiverOf(run, totals, states[totals.channel].get(totals.receiver)));
+  const own = run.totals.filter(({ channel, receiver }) => !run.isOfLead(run.lifeOf(channel, receiver)));
+  return own.map(totals => receiverOf(run, totals, states[totals.channel].get(totals.receiver)));
 }

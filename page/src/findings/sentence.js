@@ -17,8 +17,10 @@ function closedMeaning(entry) {
 
 // The first texts of lost values, and how many more there are.
 function lostTexts(run, loss, count) {
-  const texts = run.losses.valuesOf(loss, Math.min(FEW, count)).flatMap(({ text }, i) => (i ? [", ", quoted(text)] : [quoted(text)]));
-  return count > FEW ? [...texts, ` and ${grouped(count - FEW)} more`] : texts;
+  const { before = 0 } = loss;
+  const texts = run.losses.valuesOf(loss, Math.min(FEW, count - before)).flatMap(({ text }, i) => (i ? [", ", quoted(text)] : [quoted(text)]));
+  if (before > 0) texts.unshift(`${grouped(before)} before the window${texts.length > 0 ? ", " : ""}`);
+  return count - before > FEW ? [...texts, ` and ${grouped(count - before - FEW)} more`] : texts;
 }
 
 function lag(...children) {
@@ -42,7 +44,7 @@ function lossMeaning(entry, run, here) {
   const [loss] = lagging;
   const now = run.losses.lostAt(loss, entry.number);
   if (entry.reply !== "sent") return [lag(" · ", ...readers(run, [loss]), " has lost ", ...lostTexts(run, loss, now))];
-  const overwritten = run.values.text(loss.channel, run.losses.firstOf(loss) + now - 1);
+  const overwritten = run.values.text(loss.channel, run.losses.numberAt(loss, now));
   return [lag(" overwrites ", quoted(overwritten), ", not read by ", ...readers(run, lagging))];
 }
 
@@ -70,11 +72,11 @@ function meaning(entry, run) {
 }
 
 export function callText(entry, run) {
-  return [run.methodOf(entry), entry.handle, entry.rest].filter(part => part !== "").join(" ");
+  return [run.methodOf(entry), run.numberOf(entry.channel, entry.handle), entry.rest].filter(part => part !== "").join(" ");
 }
 
-export function replyText(entry) {
-  return [entry.reply, entry.answer].filter(part => part !== "").join(" ");
+export function replyText(entry, run) {
+  return [entry.reply, entry.reply === "new" ? run.numberOf(entry.channel, Number(entry.answer)) : entry.answer].filter(part => part !== "").join(" ");
 }
 
 // `here` has the losses at the place, first the one that the sentence names.
@@ -82,19 +84,23 @@ export function sentence(entry, run, here) {
   const { actors, names } = run;
   const source = run.sourceOf(entry.number);
   const losses = lossMeaning(entry, run, here);
+  const time = run.timeOf(entry);
   return [
+    ...(entry.number < run.lead ? [element("span", { class: "mute" }, "leads to the window: ")] : []),
     actors.badge(entry.actor), " ", coloured(actorColour(entry.actor), outside(names.actor(entry.actor))),
     " on ", outside(names.channel(entry.channel)), ": ",
-    element("b", {}, callText(entry, run)), " → ", element("b", { class: entry.reply }, replyText(entry)),
+    element("b", {}, callText(entry, run)), " → ", element("b", { class: entry.reply }, replyText(entry, run)),
     // Where it stands in the sources comes first, and what was lost before the call's own text, since what is last may be cut.
     ...(source ? [element("span", { class: "mute" }, " at ", sourceLink(run, source))] : []),
+    ...(time ? [element("span", { class: "mute" }, ` ${time}`)] : []),
     ...losses, ...(losses.length > 0 ? [] : meaning(entry, run)),
   ];
 }
 
 export function atTheStart(run) {
   const hint = run.losses.all.length ? ". L goes to the first loss" : "";
-  return [element("span", { class: "mute" }, `the start: no call has been made${hint}`)];
+  const said = run.lead > 0 ? "the window begins: the calls before it aren't known" : "the start: no call has been made";
+  return [element("span", { class: "mute" }, `${said}${hint}`)];
 }
 
 // A call in one short line, for a list, and where it stands in the sources. A value that has a text is shown by it alone.
@@ -102,10 +108,10 @@ export function shortLine(entry, run) {
   const text = textOf(entry, run.names);
   const source = run.sourceOf(entry.number);
   const channel = run.channels.length > 1 ? `${entry.channel}: ` : "";
-  const whole = `${callText(entry, run)} → ${replyText(entry)}`;
-  const call = text === null ? [`${channel}${whole}`] : [`${channel}${run.methodOf(entry)} ${entry.handle} `, quoted(text)];
+  const whole = `${callText(entry, run)} → ${replyText(entry, run)}`;
+  const call = text === null ? [`${channel}${whole}`] : [`${channel}${run.methodOf(entry)} ${run.numberOf(entry.channel, entry.handle)} `, quoted(text)];
   return [
-    element("span", { title: whole }, ...call),
+    element("span", { title: [whole, run.timeOf(entry)].filter(it => it).join(", ") }, ...call),
     ...(source ? [element("small", { title: visible(`${source[0]}:${source[1]}`) }, outside(`${source[0]}:${source[1]}`))] : []),
   ];
 }

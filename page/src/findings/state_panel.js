@@ -11,36 +11,40 @@ const MOST_OVERWRITTEN = 3;
 const MOST_READERS = 6;
 
 // A retained value, and beside it the receivers that read it next.
-function valueBox(index, number, text, readers) {
-  const marks = readers.slice(0, MOST_READERS).map(receiver => element("span", { class: receiver.lag ? "reader lag" : "reader" }, `↑ ${receiver.handle}`));
+function valueBox(run, index, number, text, readers) {
+  const marks = readers.slice(0, MOST_READERS).map(receiver => element("span", { class: receiver.lag ? "reader lag" : "reader" }, `↑ ${run.numberOf(index, receiver.handle)}`));
   if (readers.length > MOST_READERS) marks.push(element("span", { class: "reader" }, `+${readers.length - MOST_READERS}`));
   return element("li", {}, element("button", { type: "button", class: "box", "data-value": `${index} ${number}`, title: text, "aria-description": "shows who sent, received and lost it" }, outside(text)), ...marks);
 }
 
-// The values before the retained ones that a receiver hadn't read yet, struck out: the last of them, and how many there are before those.
+// The values before the retained ones that a receiver hadn't read yet, struck out: the last of them, and how many there are before those. A window doesn't
+// have those that were overwritten before it.
 function overwritten(channel, index, run) {
   const oldest = channel.sent - channel.retained;
+  const lag = channel.receivers.reduce((most, it) => Math.max(most, run.lagOf(index, it)), 0);
+  const isThere = number => run.lead === 0 || (run.values.areThere && run.values.overwritten(index)[number] > run.lead);
   const first = channel.receivers.reduce((least, { lag, position }) => (lag ? Math.min(least, position) : least), oldest);
   if (first === oldest) return "";
-  const shown = Array.from({ length: Math.min(MOST_OVERWRITTEN, oldest - first) }, (_, i) => oldest - i - 1).reverse();
+  const shown = Array.from({ length: Math.min(MOST_OVERWRITTEN, oldest - first) }, (_, i) => oldest - i - 1).reverse().filter(isThere);
   const boxes = shown.map(number => {
     const text = run.values.text(index, number);
     return element("li", {}, element("del", { class: "box", title: text, "data-value": `${index} ${number}` }, outside(text)));
   });
-  const hidden = oldest - first - shown.length;
+  const hidden = lag - shown.length;
   if (hidden) boxes.unshift(element("li", {}, element("span", { class: "box older" }, `+${hidden}`)));
   return element("ol", { class: "overwritten", "aria-label": "overwritten values that receivers lost, the oldest first" }, ...boxes);
 }
 
 // The newest of the retained values, and how many there are before them.
-function retained(channel, index, names) {
+function retained(channel, index, run) {
+  const { names } = run;
   if (channel.retained === 0) return element("p", { class: "mute" }, "nothing sent yet");
   const oldest = channel.sent - channel.retained;
   const hidden = channel.retained - channel.window.length;
   const boxes = channel.window.map((value, i) => {
     const position = oldest + hidden + i;
     const readers = channel.receivers.filter(receiver => receiver.unread > 0 && Math.max(receiver.position, oldest) === position);
-    return valueBox(index, position, names.value(index, value), readers);
+    return valueBox(run, index, position, names.value(index, value), readers);
   });
   if (hidden) boxes.unshift(element("li", {}, element("span", { class: "box older" }, `+${hidden}`)));
   return element("ol", { class: "values", "aria-label": "retained values, the oldest first" }, ...boxes);
@@ -50,48 +54,51 @@ function retained(channel, index, names) {
  * @param {ChannelState} channel
  * @param {ReceiverState} receiver
  */
-function standing(channel, receiver) {
+function standing(channel, index, receiver, run) {
   if (channel.kind === "watch") {
-    const version = standingOf(channel, receiver);
+    const isWindow = run.isWindow(index);
+    const version = standingOf(channel, receiver, isWindow);
+    if (isWindow) return [receiver.seen ? version : element("strong", { class: "unseen" }, version)];
     return receiver.seen ? [`${version}, seen`] : [element("strong", { class: "unseen" }, version)];
   }
   if (receiver.unread === 0) return ["up to date"];
   const readable = `${receiver.unread - receiver.lag} to read`;
   if (receiver.lag === 0) return [readable];
-  return [`${readable}, `, element("strong", { class: "lag" }, `${receiver.lag} overwritten`)];
+  return [`${readable}, `, element("strong", { class: "lag" }, `${run.lagOf(index, receiver)} overwritten`)];
 }
 
 function row(name, ...children) {
   return element("div", {}, element("dt", {}, ...name), element("dd", {}, ...children));
 }
 
-function listed(numbers) {
+function listed(handles, index, run) {
+  const numbers = handles.map(handle => run.numberOf(index, handle));
   if (numbers.length <= MOST_HANDLES) return numbers.join(", ") || "none";
   return `${numbers.slice(0, MOST_HANDLES).join(", ")} and ${numbers.length - MOST_HANDLES} more`;
 }
 
 function handles(channel, index, run) {
   const receivers = channel.receivers.slice(0, MOST_HANDLES);
-  const rows = receivers.map(receiver => row(rowName(run, index, run.lifeOf(index, receiver.handle)), ...standing(channel, receiver)));
+  const rows = receivers.map(receiver => row(rowName(run, index, run.lifeOf(index, receiver.handle)), ...standing(channel, index, receiver, run)));
   const left = channel.receivers.length - receivers.length;
   if (left) rows.push(row(["receivers"], `and ${left} more`));
-  rows.push(row(["senders"], listed(channel.senders)));
-  if (channel.weak) rows.push(row(["weak senders"], listed(channel.weak)));
+  rows.push(row(["senders"], listed(channel.senders, index, run)));
+  if (channel.weak) rows.push(row(["weak senders"], listed(channel.weak, index, run)));
   return element("dl", {}, ...rows);
 }
 
-function currentValue(channel, index, names) {
-  const text = names.value(index, channel.value);
-  return element("p", { class: "current" }, element("span", { class: "box", title: text }, outside(text)), ` version ${channel.version}`);
+function currentValue(channel, index, run) {
+  const text = run.names.value(index, channel.value);
+  return element("p", { class: "current" }, element("span", { class: "box", title: text }, outside(text)), run.isWindow(index) ? "" : ` version ${channel.version}`);
 }
 
 // What a channel that isn't unfolded says of its receivers.
-function summary(channel) {
+function summary(channel, index, run) {
   if (channel.kind === "watch") {
     const unseen = channel.receivers.filter(receiver => !receiver.seen).length;
     return unseen ? element("small", { class: "unseen" }, ` ${unseen} not up to date`) : "";
   }
-  const lags = channel.receivers.map(receiver => receiver.lag).filter(lag => lag > 0);
+  const lags = channel.receivers.map(receiver => run.lagOf(index, receiver)).filter(lag => lag > 0);
   const sum = lags.reduce((all, lag) => all + lag, 0);
   return lags.length ? element("small", { class: "lag" }, ` ${lags.length} lag, −${sum}`) : "";
 }
@@ -101,11 +108,11 @@ function section(channel, index, run, isOpen) {
   const name = outside(run.names.channel(index));
   const kind = element("small", {}, ` ${kindOf(channel)} `);
   const tag = element("span", { class: `tag ${word}` }, word);
-  const head = element("summary", {}, element("h3", {}, name, ...(isOpen ? [kind, tag] : [" ", tag, summary(channel), kind])));
+  const head = element("summary", {}, element("h3", {}, name, ...(isOpen ? [kind, tag] : [" ", tag, summary(channel, index, run), kind])));
   const made = element("details", { class: "channel", "data-channel": index, ...(isOpen ? { open: "" } : {}) }, head);
   if (!isOpen) return made;
-  const values = channel.kind === "watch" ? [currentValue(channel, index, run.names)]
-    : [overwritten(channel, index, run), retained(channel, index, run.names)];
+  const values = channel.kind === "watch" ? [currentValue(channel, index, run)]
+    : [overwritten(channel, index, run), retained(channel, index, run)];
   made.append(...values, handles(channel, index, run));
   return made;
 }

@@ -13,12 +13,13 @@ import { wholeCall } from "./whole_call.js";
 
 // Returns this many calls around the place as buttons that go there, with some before the place, as far as there are any.
 function callsAround(run, place, { shown, before }) {
-  const first = Math.max(1, Math.min(place - before, run.lastPlace - shown + 1));
+  const least = place < run.lead ? 1 : run.lead + 1;
+  const first = Math.max(least, Math.min(place - before, run.lastPlace - shown + 1));
   const width = String(run.lastPlace).length;
   const lines = [];
   for (let number = first; number <= Math.min(run.lastPlace, first + shown - 1); number++) {
     const entry = run.entry(number);
-    const line = element("button", { "data-place": number, class: entry.reply, tabindex: -1 },
+    const line = element("button", { "data-place": number, class: number > run.lead ? entry.reply : "mute", tabindex: -1 },
       run.actors.badge(entry.actor), ` ${String(number).padStart(width)}  `, ...shortLine(entry, run));
     if (number === place) line.setAttribute("aria-current", "step");
     lines.push(element("li", {}, line));
@@ -35,10 +36,16 @@ const FEW_CALLS = { shown: 4, before: 1 };
 // How wide a letter of the place is, in widths of a digit.
 const LETTER = 0.95;
 
-// A place is after a call, whose number it has, or before the first one.
-function placeText(place, last) {
-  if (place === 0) return last === 0 ? "no calls" : "before call 1";
+// A place is after a call, whose number it has, or before the first one, which may be in a lead.
+function placeText(place, { lastPlace: last, lead }) {
+  if (place === lead) return last === lead ? "no calls" : `before call ${grouped(lead + 1)}`;
+  if (place < lead) return `${grouped(place)} of ${grouped(lead)} that lead to it`;
   return `call ${grouped(place)} of ${grouped(last)}`;
+}
+
+// Whether no call of the run has been made.
+function isStart({ lead }, place) {
+  return place === 0 || place === lead;
 }
 
 // A text as it is read out, without the codes of actors.
@@ -62,14 +69,14 @@ export class Telling {
     this.calls = byId("calls-part");
     fieldOf("slider").max = run.lastPlace;
     // As wide as the longest place, so that nothing moves while the place changes.
-    const longest = Math.max(...[0, run.lastPlace].map(place => placeText(place, run.lastPlace).length));
+    const longest = Math.max(...[0, run.lead, run.lastPlace].map(place => placeText(place, run).length));
     byId("place").style.minWidth = `${longest * LETTER}ch`;
   }
 
   // The channels in the order of the panel: first that of the call that led to the place.
   get channels() {
     const { channels } = this.screen.folds;
-    if (this.view.place === 0) return channels;
+    if (this.view.place <= this.run.lead) return channels;
     const first = this.run.columns.channels[this.view.place];
     return [first, ...channels.filter(channel => channel !== first)];
   }
@@ -85,10 +92,10 @@ export class Telling {
     const { run, view } = this;
     const { place } = view;
     const { here, areNamed } = this.losses;
-    byId("sentence").replaceChildren(...(place === 0 ? atTheStart(run) : sentence(run.entry(place), run, areNamed ? here : [])));
+    byId("sentence").replaceChildren(...(isStart(run, place) ? atTheStart(run) : sentence(run.entry(place), run, areNamed ? here : [])));
     fieldOf("slider").valueAsNumber = place;
-    byId("slider").setAttribute("aria-valuetext", `${place === 0 ? "" : "after "}${placeText(place, run.lastPlace)}: ${spokenText(byId("sentence"))}`);
-    byId("place").textContent = placeText(place, run.lastPlace);
+    byId("slider").setAttribute("aria-valuetext", `${place <= run.lead ? "" : "after "}${placeText(place, run)}: ${spokenText(byId("sentence"))}`);
+    byId("place").textContent = placeText(place, run);
     byId("calls").replaceChildren(...callsAround(run, place, this.screen.isNarrow ? FEW_CALLS : CALLS));
     byId("copied").textContent = "";
     this.table.mark(here[0] ?? null);
@@ -108,7 +115,7 @@ export class Telling {
   tellWhole() {
     const { place } = this.view;
     if (byId("whole-call").hidden) return;
-    byId("whole-call").replaceChildren(...(place === 0 ? atTheStart(this.run) : wholeCall(this.run.entry(place), this.run)));
+    byId("whole-call").replaceChildren(...(isStart(this.run, place) ? atTheStart(this.run) : wholeCall(this.run.entry(place), this.run)));
   }
 
   // Tells the state at the place, if it is loaded, and so are the values that are lost there.
@@ -124,7 +131,7 @@ export class Telling {
     byId("state").replaceChildren(...statePanel(state, run, this.channels, this.shown.turned, calls, card));
     byId("state").dataset.place = String(view.place);
     this.offer(conditionsAt(state, run));
-    byId("picture").setAttribute("aria-label", `${view.from === 0 ? "The start and calls 1" : `Calls ${view.from}`} to ${Math.min(view.to, run.lastPlace)}, drawn.`);
+    byId("picture").setAttribute("aria-label", `${view.from === run.lead ? `The start and calls ${run.lead + 1}` : `Calls ${view.from}`} to ${Math.min(view.to, run.lastPlace)}, drawn.`);
   }
 
   // Offers conditions to choose from, unless they are those of the place before, as they mostly are.

@@ -34,7 +34,7 @@ class Wanted {
   }
 
   isInCall(entry) {
-    return this.isIn(textOf(entry, this.run.names) ?? "") || this.isIn(callText(entry, this.run)) || this.isIn(replyText(entry));
+    return this.isIn(textOf(entry, this.run.names) ?? "") || this.isIn(callText(entry, this.run)) || this.isIn(replyText(entry, this.run));
   }
 
   isInSource(place) {
@@ -47,7 +47,7 @@ class Wanted {
 export async function hitsOf(run, text, isOver) {
   const wanted = new Wanted(run, text);
   const hits = [];
-  for (let place = 1; place <= run.lastPlace; place++) {
+  for (let place = run.lead + 1; place <= run.lastPlace; place++) {
     if (wanted.isAt(place)) hits.push(place);
     if (place % AT_ONCE === 0) await new Promise(done => setTimeout(done));
     if (isOver()) return null;

@@ -42,7 +42,7 @@ function receivesOf(run, channel, number) {
 // What became of a value: where it was sent, received and overwritten, and the losses in which it was lost.
 export function lifeOfValue(run, channel, number) {
   const { sends, overwritten } = run.values.tables[channel];
-  const isLostIn = loss => run.losses.firstOf(loss) <= number && number < run.losses.firstOf(loss) + loss.lost;
+  const isLostIn = loss => run.losses.firstOf(loss) <= number && number < run.losses.firstOf(loss) + run.losses.countIn(loss);
   return {
     sent: sends[number], received: receivesOf(run, channel, number), lost: run.losses.on(channel).filter(isLostIn),
     overwritten: overwritten[number] <= run.lastPlace ? overwritten[number] : null,

@@ -102,7 +102,7 @@ function listenToTable(page) {
 }
 
 function listenToButtons(page) {
-  press(page, "first", walk => walk.jumpTo(0));
+  press(page, "first", walk => walk.jumpTo(walk.run.lead));
   press(page, "back", walk => walk.by(-1));
   press(page, "forward", walk => walk.by(1));
   press(page, "last", walk => walk.toEnd());

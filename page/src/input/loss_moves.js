@@ -13,7 +13,7 @@ export class LossMoves {
   next(isBack) {
     const { view, screen, searching } = this.walk;
     searching.stop();
-    const isFar = view.width === view.lastColumn && !screen.frame.isNear;
+    const isFar = view.isWhole && !screen.frame.isNear;
     const place = this.losses.next(isBack);
     if (place !== null) this.show(this.walk.shown.loss, place, isFar);
   }
@@ -42,7 +42,7 @@ export class LossMoves {
 
   toCause() {
     const loss = this.losses.current;
-    if (loss) this.show(loss, loss.from);
+    if (loss) this.show(loss, Math.max(loss.from, this.walk.run.lead));
   }
 
   toEnd() {

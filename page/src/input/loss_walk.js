@@ -72,7 +72,8 @@ export class LossWalk {
   // Brings a loss into view, with what is around it.
   show(loss, isNarrow) {
     const end = Math.min(loss.to, this.run.lastPlace);
-    const width = Math.max(Math.ceil((end - loss.from) * AROUND), isNarrow ? NARROW_LEAST : LEAST);
-    this.view.show(Math.round((loss.from + end - width) / 2), width);
+    const from = Math.max(loss.from, this.run.lead);
+    const width = Math.max(Math.ceil((end - from) * AROUND), isNarrow ? NARROW_LEAST : LEAST);
+    this.view.show(Math.round((from + end - width) / 2), width);
   }
 }

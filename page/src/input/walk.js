@@ -85,7 +85,7 @@ export class Walk {
   // Goes to the place that is worth looking at first, and what is around it.
   begin() {
     const { view } = this;
-    const place = firstPlace(this.run.account);
+    const place = firstPlace(this.run.account, this.run.lead);
     view.go(place);
     if (place > 0) view.centre(place);
     this.chooseTold();
@@ -96,7 +96,7 @@ export class Walk {
     const { run, view } = this;
     const [fact] = run.account?.facts ?? [];
     if (fact?.kind !== "loss" || this.shown.loss !== null) return;
-    this.shown.loss = run.losses.at(view.place).find(it => it.channel === fact.channel && it.receiver === fact.receiver && it.from === view.place) ?? null;
+    this.shown.loss = run.losses.at(view.place).find(it => it.channel === fact.channel && it.receiver === fact.receiver && (it.from === view.place || it.from <= run.lead)) ?? null;
   }
 
   // Shows the account once it is made, and returns whether it is new. Where nobody has moved yet, it leads to where the run begins.
@@ -174,12 +174,12 @@ export class Walk {
     this.go(place);
   }
 
-  // Scrolls before anything is changed, since the browser lays out the page for it.
+  // It ends where a window begins. Scrolls before anything is changed, since the browser lays out the page for it.
   by(places) {
     this.isStarting = false;
     this.searching.stop();
     this.shown.isAllValues = false;
-    this.view.go(this.view.place + places);
+    this.view.go(Math.max(this.view.least, this.view.place + places));
     this.reveal();
     this.render();
   }
@@ -188,7 +188,7 @@ export class Walk {
   reveal() {
     const { channels, handles } = this.run.columns;
     const { place } = this.view;
-    if (place > 0) this.screen.reveal(channels[place], handles[place]);
+    if (place > this.run.lead) this.screen.reveal(channels[place], handles[place]);
   }
 
   // Jumps, and scrolls in where that led. Each jump is a step of the browser's history.
@@ -258,7 +258,7 @@ export class Walk {
   // Folds or unfolds the band of the call that led here, or at the start the first one, and scrolls it in.
   turnBand() {
     const { place } = this.view;
-    const key = place > 0 ? this.run.columns.channels[place] : this.screen.folds.channels[0];
+    const key = place > this.run.lead ? this.run.columns.channels[place] : this.screen.folds.channels[0];
     this.refold(folds => folds.turn(key));
     this.reveal();
     this.render();

@@ -15,6 +15,7 @@ import { LossTable } from "../findings/loss_table.js";
 import { pushRun, readAddress } from "../input/address.js";
 import { Walk } from "../input/walk.js";
 import { bindingsOf } from "../run/bindings.js";
+import { windowText } from "../run/lead.js";
 import { Names, readNames } from "../run/names.js";
 import { isJournal } from "../run/opened_text.js";
 import { Run } from "../run/run.js";
@@ -59,8 +60,9 @@ function asBeginning(opened, text) {
 }
 
 function factsOf(source, run) {
-  const counts = [countOf(run.lastPlace, "call"), countOf(run.channels.length, "channel"), countOf(run.actorCount, "actor")];
+  const counts = [countOf(run.lastPlace - run.lead, "call"), countOf(run.channels.length, "channel"), countOf(run.callerCount, "actor")];
   const facts = [outside(source.name), ` · ${counts.join(" · ")}`];
+  if (run.names.window) facts.push(" · ", outside(windowText(run.names.window, run.lastPlace, visible)));
   if (source.notes.length > 0) facts.push(` · read from ${source.notes.join(", ")}`);
   if (run.waiting) facts.push(` · line ${run.waiting.line} would wait: `, outside(run.waiting.text));
   else if (run.waits.length > 0) facts.push(` · ${countOf(run.waits.length, "call")} ${run.waits.length === 1 ? "waits" : "wait"}: `, outside(run.waits.map(it => it.text).join("; ")));
@@ -73,7 +75,8 @@ function placeWanted({ names }) {
   const { place } = readAddress(location.href);
   if (place !== null || !names) return place ?? 0;
   try {
-    return firstPlace(readNames(new TextDecoder().decode(names)).account);
+    const { account, window } = readNames(new TextDecoder().decode(names));
+    return firstPlace(account, window?.lead);
   } catch {
     // What is wrong with them is said once the run is read.
     return 0;
@@ -223,7 +226,7 @@ export class Opener {
     showPart("walk");
     byId("compare").hidden = run.isBeginning;
     const shown = new Shown();
-    const view = new View(run.lastPlace, run.lastColumn, columnsThatFit(byId("picture-box").clientWidth || innerWidth), shown);
+    const view = new View(run.lastPlace, run.lastColumn, columnsThatFit(byId("picture-box").clientWidth || innerWidth), shown, run.lead);
     openAccount(run);
     showTab("answer", null);
     const table = new LossTable(run, shown.table);
@@ -240,6 +243,7 @@ export class Opener {
     const names = namesFor(walk.run, bytes, name);
     if (names === null) return;
     tell();
+    if (names.window) return this.renewWith(names, bytes, name);
     walk.rename(names);
     openAccount(walk.run);
     byId("facts").replaceChildren(...factsOf(source, walk.run));
@@ -247,6 +251,11 @@ export class Opener {
     source.namesFile = name;
     if (source.key !== OWN) this.keep(source);
     this.redraw();
+  }
+
+  // Opens the run again with the names of a window, since it begins elsewhere then.
+  renewWith(names, bytes, name) {
+    return this.ask({ ...this.page.source, names: bytes, namesFile: name });
   }
 
   // Draws all again, such as after a change of the window's size.

@@ -38,12 +38,14 @@ export function isAccount(value) {
   return hasLists && isObject(value.rest) && Number.isSafeInteger(value.rest.after) && isTextOrNull(value.rest.text) && isTextOrNull(value.nothing);
 }
 
-// The place at which a run is opened: the one that is worth looking at first, or the start where nothing was found.
+// The place at which a run is opened: the one that is worth looking at first, or the start where nothing was found. A window starts with its first call
+// behind its lead.
 /** @param {Account | null} account */
-export function firstPlace(account) {
-  if (account === null) return 0;
+export function firstPlace(account, lead = 0) {
+  const start = lead === 0 ? 0 : lead + 1;
+  if (account === null) return start;
   const { facts, failure, waiting, look } = account;
-  return facts.length > 0 || waiting.length > 0 || Number.isSafeInteger(failure) ? look : 0;
+  return facts.length > 0 || waiting.length > 0 || Number.isSafeInteger(failure) ? look : start;
 }
 
 // Returns an account, or null if it has a version that the page doesn't know.

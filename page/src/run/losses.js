@@ -43,7 +43,7 @@ export class Losses {
     this.overlaps = new Overlaps(all);
     this.byChannel = sorted(all, run.channels.length);
     this.byLives = new WeakMap();
-    this.stops = Uint32Array.from(new Set(all.flatMap(({ from, end, to }) => (end === "open" ? [from] : [from, to])))).sort();
+    this.stops = Uint32Array.from(new Set(all.flatMap(({ from, end, to }) => [...(from > run.lead ? [from] : []), ...(end === "open" ? [] : [to])]))).sort();
     this.byReceiver = run.channels.map(() => new Map());
     this.reading = readersIn(run, all);
     // The sums of the channels, with the failure of the test that they were counted with.
@@ -129,24 +129,37 @@ export class Losses {
     return this.run.values.overwrittenUpTo(channel, from) - 1;
   }
 
+  // How many of the journal's values a loss has.
+  countIn({ lost, before = 0, here = 0 }) {
+    return lost - before + here;
+  }
+
   // How many of a loss's values are overwritten at a place.
   lostAt(loss, place) {
-    const { channel, lost } = loss;
-    return Math.min(lost, this.run.values.overwrittenUpTo(channel, place) - this.firstOf(loss));
+    const { channel, lost, before = 0, here = 0 } = loss;
+    return Math.min(lost, this.run.values.overwrittenUpTo(channel, place) - this.firstOf(loss) + before - here);
+  }
+
+  // The number of the value of a loss that was overwritten at a place, where so many were lost by then.
+  numberAt(loss, now) {
+    const { before = 0, here = 0 } = loss;
+    return this.firstOf(loss) + now - before + here - 1;
   }
 
   // The losses of other receivers that lost some of the same values: they lag where one of these values is overwritten.
   /** @returns {Loss[]} */
   sharing(loss) {
-    const last = this.run.values.overwritten(loss.channel)[this.firstOf(loss) + loss.lost - 1];
+    const last = this.run.values.overwritten(loss.channel)[this.firstOf(loss) + this.countIn(loss) - 1];
     return this.between(loss.from + 1, last).filter(it => it.channel === loss.channel && it.receiver !== loss.receiver);
   }
 
-  // The texts of this many of a loss's values, with the places where they were sent and overwritten.
+  // The texts of this many of a loss's values, with the places where they were sent and overwritten. Those that were overwritten before a window it
+  // doesn't have.
   valuesOf(loss, most) {
     const { values } = this.run;
-    const first = this.firstOf(loss);
-    return Array.from({ length: Math.min(most, loss.lost) }, (_, i) => ({
+    const { before = 0, here = 0 } = loss;
+    const first = this.firstOf(loss) + here;
+    return Array.from({ length: Math.max(0, Math.min(most, loss.lost - before)) }, (_, i) => ({
       text: values.text(loss.channel, first + i), sent: values.sendOf(loss.channel, first + i),
       overwritten: values.overwritten(loss.channel)[first + i],
     }));

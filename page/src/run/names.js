@@ -4,7 +4,7 @@
 import { visible, visibleLines } from "../base/text.js";
 import { isAccount, known } from "./account.js";
 
-const NEWEST = 3;
+const NEWEST = 4;
 
 function isText(value) {
   return typeof value === "string";
@@ -30,6 +30,23 @@ function isMaker(value) {
   return isList(value, () => true) && value.length === 2 && (value[0] === null || isText(value[0])) && isNumber(value[1]);
 }
 
+function isNumberOrNull(value) {
+  return value === null || isNumber(value);
+}
+
+function isChannelWindow(value) {
+  return isTable(value, () => true) && isNumber(value.lead) && isNumber(value.calls) && isNumberOrNull(value.sent ?? null) && isList(value.handles, isNumberOrNull)
+    && isTable(value.lags ?? {}, isNumber);
+}
+
+function isWindow(value) {
+  return isTable(value, () => true) && isText(value.reason) && isNumberOrNull(value.at) && isNumber(value.lead) && isTable(value.channels, isChannelWindow);
+}
+
+function isTime(value) {
+  return isList(value, isNumber) && value.length === 3;
+}
+
 function isWait(value) {
   return isTable(value, () => true) && isText(value.call) && ["actor", "channel", "handle", "since"].every(key => isNumber(value[key]));
 }
@@ -50,6 +67,8 @@ const KEYS = {
   waiting: [value => isList(value, isWait), "its waiting calls have no actor, channel, handle, call and stamp"],
   root: [isText, "its folder of the sources is no text"],
   waited: [value => isTable(value, list => isList(list, isNumber)), "its key \"waited\" has no lists of calls by channel"],
+  window: [isWindow, "its window has no \"reason\", \"at\", \"lead\" and \"channels\""],
+  times: [value => isList(value, isTime), "its times are no lists of a stamp and two times"],
   journal: [isText, "its checksum of the journal is no text"],
   account: [isAccount, "its key \"account\" has no \"facts\" with \"text\" and \"places\""],
 };
@@ -96,7 +115,10 @@ export class Names {
   /** @param {any} tables */
   constructor(tables = {}) {
     const { core = "", actors = {}, channels = {}, values = {}, handles = {}, locations = [], made = {}, calls = {}, tasks = {} } = tables;
-    const { waiting = [], journal = null, root = null, made_by: makers, unnamed } = tables;
+    const { waiting = [], journal = null, root = null, made_by: makers, unnamed, window = null, times = [] } = tables;
+    // Why the run begins in a window, and what was before it; and when some of its calls were made.
+    this.window = window;
+    this.times = times;
     this.tables = { actors, channels, values, handles, locations, made, calls, tasks };
     // Who made channels, and who has no name of its own, say what is the same in another run. They are used as far as they have their form.
     Object.assign(this.tables, { madeBy: isTable(makers, isMaker) ? makers : {}, unnamed: isList(unnamed, isNumber) ? unnamed : [] });
@@ -170,8 +192,8 @@ export class Names {
 
   // What the account of a run needs of these names where they have none.
   get parts() {
-    const { tables, waited, waiting, ending } = this;
-    return { tables, waited, waiting, ending };
+    const { tables, waited, waiting, ending, window, times } = this;
+    return { tables, waited, waiting, ending, window, times };
   }
 
   // The name of a channel's call, which is its word but for two calls that wait.

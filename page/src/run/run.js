@@ -3,12 +3,15 @@
 import { isolated } from "../base/text.js";
 import { Actors } from "./actors.js";
 import { readEntry } from "./entries.js";
+import { behindLead, lostBefore, numberOf, timeOf, windowOf } from "./lead.js";
 import { Losses } from "./losses.js";
+import { MARK_NAMES } from "./marks.js";
 import { Scanner } from "./scanner.js";
 import { commandsFor, readStates } from "./states.js";
 import { Values } from "./values.js";
 import { waitsOf } from "./waiting.js";
 
+const SENT = MARK_NAMES.indexOf("sent");
 const SPACE = 32;
 const LINE_END = 10;
 
@@ -84,7 +87,13 @@ export class Run {
     /** @type {number[][] | null} the places of each channel's calls that are drawn from far too, once they are needed */
     this.rareCalls = null;
     this.values = new Values(this);
-    this.losses = new Losses(this, opened.losses);
+    // How many entries lead to the window in which the run begins, or 0.
+    this.lead = 0;
+    /** @type {Set<number> | null} in a window, the actors that made calls */
+    this.callers = null;
+    /** @type {Loss[]} */
+    this.allLosses = opened.losses;
+    this.losses = new Losses(this, this.allLosses);
     /** @type {RunState} */
     this.ending = opened.ending;
     // What is counted in the whole run, once it is loaded.
@@ -96,7 +105,7 @@ export class Run {
     this.listed = null;
     /** @type {Promise<void> | undefined} */
     this.finding = undefined;
-    this.receiverCounts = this.lives.map(lives => lives.filter(life => life.kind === "receiver").length);
+    this.receiverCounts = this.countReceivers();
     this.bindings = {};
     this.actorCount = this.columns.actorCount;
     this.rename(names);
@@ -108,11 +117,80 @@ export class Run {
 
   rename(names) {
     this.names = names;
+    if (names.window) this.beginBehind(names.window);
     /** @type {Account | null} what was found in the run, in words: of the names, or else made once it is needed */
     this.account = names.account;
     this.actors = new Actors(this.actorCount, names);
     names.bindings = this.bindings;
     this.waits = this.waiting ? [this.waiting] : waitsOf(this);
+  }
+
+  // How many receivers each channel had, without those that the lead alone has.
+  countReceivers() {
+    return this.lives.map(lives => lives.filter(life => life.kind === "receiver" && !this.isOfLead(life)).length);
+  }
+
+  // Whether the lead alone has a handle.
+  isOfLead({ to }) {
+    return to <= this.lead;
+  }
+
+  // Begins the run behind the lead of a window: what the lead has is none of what anybody did.
+  beginBehind(window) {
+    this.lead = Math.min(window.lead, this.lastPlace);
+    const { channels, marks } = this.columns;
+    /** @type {number[][]} */
+    const sends = this.channels.map(() => []);
+    for (let place = 1; place < marks.length; place++) if (marks[place] === SENT) sends[channels[place]].push(place);
+    this.losses = new Losses(this, behindLead(window, this.allLosses).map(loss => {
+      const [before, here] = lostBefore(window, sends[loss.channel], loss);
+      return { ...loss, lost: loss.lost - here + before, before, here };
+    }));
+    for (const life of this.lives.flat()) if (life.last <= this.lead) life.user = null;
+    this.receiverCounts = this.countReceivers();
+    this.callers = new Set(this.columns.actors.subarray(this.lead + 1));
+  }
+
+  // The number by which texts call a handle.
+  numberOf(channel, handle) {
+    return numberOf(this.names.window, channel, handle);
+  }
+
+  // Whether not all of a channel's calls are there.
+  isWindow(channel) {
+    return windowOf(this.names.window, channel) !== undefined;
+  }
+
+  // When a call was made, in words, or null.
+  timeOf({ stamp }) {
+    return timeOf(this.names.window, this.names.times, Number(stamp))?.text ?? null;
+  }
+
+  // By how many values a receiver lags in a state.
+  lagOf(channel, { handle, lag }) {
+    const [{ before = 0, here = 0 } = {}] = this.losses.of(channel, handle);
+    return lag && lag + before - here;
+  }
+
+  // How many calls each actor made with a handle, once they are listed. Those of the lead are none.
+  callersOf(life) {
+    const { actors, handles, channels } = this.columns;
+    const channel = this.lives.findIndex(lives => lives[life.handle] === life);
+    const counts = new Map(this.listed.callersOf(life).map(({ actor, calls }) => [actor, calls]));
+    for (let place = 1; place <= this.lead; place++) {
+      if (channels[place] === channel && handles[place] === life.handle) counts.set(actors[place], counts.get(actors[place]) - 1);
+    }
+    return [...counts].filter(([, calls]) => calls > 0).map(([actor, calls]) => ({ actor, calls }));
+  }
+
+  // Whether an actor is one of the run: in a window, it has made a call.
+  isCaller(actor) {
+    return this.callers === null || this.callers.has(actor);
+  }
+
+  // How many actors there are.
+  get callerCount() {
+    return this.callers?.size ?? this.actorCount;
   }
 
   // The last column that is drawn. Where calls wait at the end, there is one after the last place.
@@ -129,7 +207,7 @@ export class Run {
   titleOf(channel, handle) {
     const life = this.lifeOf(channel, handle);
     const owner = this.ownerOf(channel, life);
-    return `${owner === undefined ? "" : `${isolated(owner)} · `}${life.kind} ${handle}`;
+    return `${owner === undefined ? "" : `${isolated(owner)} · `}${life.kind} ${this.numberOf(channel, handle)}`;
   }
 
   /** @returns {Life} */
@@ -159,9 +237,9 @@ export class Run {
     return this.orders[number];
   }
 
-  // The last place up to a stamp. Entries are in the order of their stamps.
+  // The last place up to a stamp, behind the lead. Entries are in the order of their stamps.
   placeOf(stamp) {
-    let least = 0;
+    let least = this.lead;
     let most = this.lastPlace;
     while (least < most) {
       const middle = Math.ceil((least + most) / 2);

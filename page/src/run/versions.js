@@ -5,13 +5,14 @@ function missedBy(channel, receiver) {
   return Math.max(0, channel.version - receiver.mark - 1);
 }
 
-// Returns the version that the receiver has, in few words.
-export function versionOf(channel, receiver) {
+// Returns the version that the receiver has, in few words. In a window the numbers of versions aren't the real ones.
+export function versionOf(channel, receiver, isWindow) {
+  if (isWindow) return receiver.seen ? "has seen it" : "hasn't seen it";
   return receiver.seen ? `has ${receiver.mark}` : `has ${receiver.mark} of ${channel.version}`;
 }
 
 // The same with how many changes it missed.
-export function standingOf(channel, receiver) {
-  const missed = missedBy(channel, receiver);
-  return versionOf(channel, receiver) + (missed ? `, missed ${missed}` : "");
+export function standingOf(channel, receiver, isWindow) {
+  const missed = isWindow ? 0 : missedBy(channel, receiver);
+  return versionOf(channel, receiver, isWindow) + (missed ? `, missed ${missed}` : "");
 }

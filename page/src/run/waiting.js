@@ -44,5 +44,5 @@ function waitText({ actor, channel, handle, call, since, location, held_by: hold
   const whose = run.lifeOf(channel, handle) ? run.titleOf(channel, handle) : `handle ${handle}`;
   const who = isolated(run.names.actor(actor));
   const where = isolated(run.names.channel(channel));
-  return `${who} waits in ${visible(call)} of ${whose} on ${where} since ${sinceText(run.placeOf(since))}${place ? `, at ${place}` : ""}${holderText(holder, run)}`;
+  return `${who} waits in ${visible(call)} of ${whose} on ${where} since ${sinceText(run.placeOf(since), run.lead)}${place ? `, at ${place}` : ""}${holderText(holder, run)}`;
 }

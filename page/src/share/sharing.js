@@ -26,8 +26,9 @@ export function copyCommands(walk) {
 // What the account says, as the lines of a text.
 function accountLines(account) {
   if (account === null) return ["what was found is being counted"];
-  const { unknown, facts, rest, nothing, waiting } = account;
+  const { window, unknown, facts, rest, nothing, waiting } = account;
   return [
+    ...(window ? [window.text] : []),
     ...(unknown.length > 0 ? [`not all is known: ${unknown.join("; ")}`] : []), ...facts.slice(0, rest.after).flatMap(({ text }) => text),
     ...[rest.text, nothing].filter(line => line !== null), ...waiting.map(({ text }) => `still waiting: ${text}`),
   ].map(visible);
@@ -42,7 +43,7 @@ function fenceOf(lines) {
 // The account, how another run differs, the call at the place and the loss there, as Markdown, with the page's address.
 export function copyReport(walk, name) {
   const { run, view } = walk;
-  const lines = [`${byId("place").textContent}: ${view.place === 0 ? "the start" : wordsOf(byId("sentence"))}`, ...cardLines()];
+  const lines = [`${byId("place").textContent}: ${view.place <= run.lead ? "the start" : wordsOf(byId("sentence"))}`, ...cardLines()];
   const difference = walk.shown.other === null ? [] : [walk.shown.other.compared.lines.map(visible)];
   const blocks = [accountLines(run.account), ...difference, lines].map(those => [fenceOf(those) + "text", ...those, fenceOf(those)].join("\n"));
   return copyText(`### ${visible(name).replace(/[\\`*_<>#[\]]/g, "\\$&")}\n\n${blocks.join("\n\n")}\n\nThe page: <${location.href}>\n`);

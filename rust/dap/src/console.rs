@@ -3,7 +3,7 @@
 use crate::arguments::Arguments;
 use crate::expression::{Expression, Thing, thing_of};
 use crate::moves::Debuggee;
-use crate::shown::{after, text_of};
+use crate::shown::text_of;
 use crate::variables::Group;
 use crate::{Answer, Refusal};
 use serde_json::{Value, json};
@@ -51,7 +51,8 @@ impl Debuggee {
     fn value_of(&self, text: &str, at: u32) -> Answer {
         let expression = Expression::read(text, &self.recording)?;
         let value = expression.value(&self.recording);
-        let value = value.ok_or_else(|| Refusal(format!("there is no `{text}` {}", after(at))))?;
+        let value =
+            value.ok_or_else(|| Refusal(format!("there is no `{text}` {}", self.after(at))))?;
         Ok(json!({"result": value.to_string(), "variablesReference": 0}))
     }
 

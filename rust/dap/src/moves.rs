@@ -134,7 +134,9 @@ impl Debuggee {
     pub(crate) fn step(&mut self, given: Arguments<'_>, is_back: bool) -> Answer {
         let actor = self.actor_of(given.need_number("threadId")?)?;
         let one = if is_back {
-            self.place.checked_sub(1)
+            Some(self.place)
+                .filter(|place| *place > self.recording.first())
+                .map(|place| place - 1)
         } else {
             Some(self.place + 1).filter(|place| *place <= self.recording.len())
         };
@@ -153,7 +155,11 @@ impl Debuggee {
     /// Stops at the end of the run in a direction. The session goes on, so that the user can go
     /// back from there.
     fn end(&mut self, is_back: bool) {
-        if is_back {
+        let first = self.recording.first();
+        if is_back && first > 0 {
+            let said = "the beginning of the window: what was called before isn't known";
+            self.go(first, Stop::saying("step", said))
+        } else if is_back {
             self.go(0, Stop::saying("step", "the start of the run"))
         } else {
             self.go(
@@ -222,7 +228,11 @@ impl Debuggee {
                 breakpoints,
             }
         });
-        let last = if is_back { 0 } else { self.recording.len() };
+        let last = if is_back {
+            self.recording.first()
+        } else {
+            self.recording.len()
+        };
         self.print_logs(found.unwrap_or(last), is_back);
         match (found, stop) {
             (Some(place), Some(stop)) => self.go(place, stop),
@@ -334,7 +344,7 @@ impl Debuggee {
 
     /// Returns the number of the call that led to a place.
     pub(crate) fn call_at(&self, place: u32) -> Answer<u32> {
-        let call = Some(place).filter(|place| *place > 0);
+        let call = Some(place).filter(|place| *place > self.recording.first());
         call.ok_or_else(|| Refusal::new("no call was made yet"))
     }
 

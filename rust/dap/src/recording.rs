@@ -111,12 +111,19 @@ impl Recording {
             let Some(entry) = self.walk.entry(place.into()) else {
                 return;
             };
-            self.of_actor.entry(entry.actor()).or_default().push(place);
             if let ("subscribe" | "resubscribe" | "clone-receiver", Some(made)) =
                 (entry.call(), new_handle(&entry))
             {
                 self.receivers.insert((entry.channel(), made));
             }
+            if place <= self.first() {
+                if entry.reply() == "dropped" {
+                    self.receivers.remove(&(entry.channel(), entry.handle()));
+                }
+                self.locations.push(UNKNOWN);
+                continue;
+            }
+            self.of_actor.entry(entry.actor()).or_default().push(place);
             let location = self.names.location(place.into(), &entry);
             let known = location.and_then(|index| self.of_location.get_mut(index));
             self.locations.push(match (known, location) {
@@ -134,6 +141,11 @@ impl Recording {
         self.walk.len() as u32
     }
 
+    /// The first place: that at which a window begins, behind its lead, or 0.
+    pub(crate) fn first(&self) -> u32 {
+        self.names.lead().min(self.walk.len()) as u32
+    }
+
     /// Returns the walk at a place of the run.
     pub(crate) fn at(&mut self, place: u32) -> &mut Walk {
         self.walk.go_to(place.into());
@@ -145,8 +157,11 @@ impl Recording {
         &self.walk
     }
 
+    /// Returns the call that led to a place. Nobody made those that lead to a window.
     pub(crate) fn entry(&self, place: u32) -> Option<Entry> {
-        self.walk.entry(place.into())
+        self.walk
+            .entry(place.into())
+            .filter(|_| place > self.first())
     }
 
     /// The actors that made a call, or wait in one.

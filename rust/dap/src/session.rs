@@ -308,7 +308,7 @@ impl<W: Write> Session<W> {
         let last = recording.len();
         let place = match launch.stop_at {
             StopAt::Cause => recording.names.look() as u32,
-            StopAt::Start => 0,
+            StopAt::Start => recording.first(),
             StopAt::End => last,
             StopAt::Call(call) => call,
         };

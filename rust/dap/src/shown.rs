@@ -14,6 +14,9 @@ use yovanelum::debugger::Channel;
 const FRAMES: u64 = 200;
 const MOST_FRAMES: u64 = 10_000;
 
+/// Where no call of a window has been made yet.
+const BEFORE: &str = "before the window";
+
 /// What a frame stands for.
 #[derive(Clone, Copy)]
 pub(crate) struct Frame {
@@ -110,7 +113,14 @@ impl Debuggee {
             call: None,
             at: self.place,
         };
-        let mut frame = self.numbered(frame, "before its first call".to_string());
+        let is_before = self.recording.first() > 0 && self.place <= self.recording.first();
+        let name = if is_before {
+            BEFORE
+        } else {
+            "before its first call"
+        };
+        let mut frame = self.numbered(frame, name.to_string());
+        let first = first.filter(|_| !is_before);
         let location = first.and_then(|place| self.recording.location(place));
         self.put_location(&mut frame, location);
         frame
@@ -156,7 +166,12 @@ impl Debuggee {
     pub(crate) fn call_text(&self, place: u32) -> String {
         let names = &self.recording.names;
         let Some(entry) = self.recording.entry(place) else {
-            return "the start".to_string();
+            let start = if self.recording.first() > 0 {
+                BEFORE
+            } else {
+                "the start"
+            };
+            return start.to_string();
         };
         format!(
             "{} = {}",
@@ -191,7 +206,11 @@ impl Debuggee {
         let others = (0..self.recording.walk().channels()).filter(|channel| Some(*channel) != own);
         for channel in own.into_iter().chain(others) {
             let group = self.numbered_group(Group::Channel(channel, at));
-            let name = format!("{} {}", self.recording.names.channel(channel), after(at));
+            let name = format!(
+                "{} {}",
+                self.recording.names.channel(channel),
+                self.after(at)
+            );
             scopes.push(json!({"name": name, "presentationHint": "locals", "variablesReference": group, "expensive": false}));
         }
         if at == self.recording.len() && !self.recording.waits.is_empty() {
@@ -217,14 +236,25 @@ impl Debuggee {
         if let Some(loss) = self.recording.loss_at(self.place) {
             let receiver = names.receiver(loss.channel, loss.receiver);
             let (lost, channel) = (loss.lost, names.channel(loss.channel));
+            let by = match loss.from {
+                from if from <= self.recording.first() => BEFORE.to_string(),
+                from => format!("by call {from}"),
+            };
             return Some(format!(
-                "`{receiver}` lost {lost} of the values of `{channel}`; the first was overwritten by call {}",
-                loss.from
+                "`{receiver}` lost {lost} of the values of `{channel}`; the first was overwritten {by}"
             ));
         }
         let entry = self.recording.entry(self.place)?;
         let channel = names.channel(entry.channel());
         (entry.reply() == "closed").then(|| format!("`{channel}` is closed"))
+    }
+
+    /// Says at which place something is shown: after the call that leads to it.
+    pub(crate) fn after(&self, place: u32) -> String {
+        match place {
+            place if place <= self.recording.first() => "before the first call".to_string(),
+            call => format!("after call {call}"),
+        }
     }
 
     pub(crate) fn exception_info(&self) -> Answer {
@@ -244,14 +274,6 @@ impl Debuggee {
     }
 }
 
-/// Says at which place something is shown: after the call that leads to it.
-pub(crate) fn after(place: u32) -> String {
-    match place {
-        0 => "before the first call".to_string(),
-        call => format!("after call {call}"),
-    }
-}
-
 /// Returns what a receiver or a channel is at the walk's place, on one line.
 pub(crate) fn text_of(thing: Thing, recording: &Recording) -> String {
     let walk = recording.walk();
@@ -268,9 +290,10 @@ pub(crate) fn text_of(thing: Thing, recording: &Recording) -> String {
             None => gone(),
         },
         Thing::Receiver(channel, handle) => match walk.channel(channel) {
-            Some(Channel::Broadcast(it)) => it
-                .receiver(handle)
-                .map_or_else(gone, |it| format!("unread {}, lag {}", it.unread, it.lag)),
+            Some(Channel::Broadcast(it)) => it.receiver(handle).map_or_else(gone, |it| {
+                let lag = recording.names.lag(channel, handle, it.lag);
+                format!("unread {}, lag {lag}", it.unread - it.lag + lag)
+            }),
             Some(Channel::Watch(it)) => it.receiver(handle).map_or_else(gone, |it| {
                 if it.is_seen { "seen" } else { "unseen" }.to_string()
             }),

@@ -39,7 +39,8 @@ impl Debuggee {
         let found = match (entry.call(), entry.reply()) {
             (_, "lagged") => {
                 let loss = self.recording.loss_at(place);
-                loss.map(|loss| (loss.from, "the send that overwrote the first value"))
+                let sent = loss.filter(|loss| loss.from > self.recording.first());
+                sent.map(|loss| (loss.from, "the send that overwrote the first value"))
                     .into_iter()
                     .collect()
             }

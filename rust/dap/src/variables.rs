@@ -253,7 +253,10 @@ impl Debuggee {
                 let fields = &[Field::Unread, Field::Lag, Field::Position];
                 (
                     fields,
-                    it.receiver(handle).map(|it| (it.unread - it.lag, it.lag)),
+                    it.receiver(handle).map(|it| {
+                        let lag = self.recording.names.lag(channel, handle, it.lag);
+                        (it.unread - it.lag, lag)
+                    }),
                 )
             }
             Channel::Watch(_) => (&[Field::Seen], None),

@@ -24,10 +24,12 @@ impl Closed {
 
 /// Returns the channels that had a receiver where they closed, in the order of the places: first
 /// those of which a receiver wasn't told. What closed after the end began is left out: that was the
-/// unwinding.
+/// unwinding. What closed before the window is none of the run.
 pub(super) fn found(context: &Context<'_>) -> Vec<Closed> {
     let closings = context.findings.closings().iter();
-    let closings = closings.filter(|closing| context.failure.is_before_end(closing.place));
+    let closings = closings.filter(|closing| {
+        closing.place > context.history.lead && context.failure.is_before_end(closing.place)
+    });
     let mut closed: Vec<_> = closings
         .map(|closing| Closed {
             closing: *closing,

@@ -1,6 +1,7 @@
 //! A fact of the account: its lines, and the steps of the run that it tells of.
 
 use super::columns::{self, Cells};
+use super::times::CallTime;
 use crate::names::{Json, SourceLocation};
 
 /// What a step is to a fact.
@@ -62,6 +63,8 @@ pub(crate) struct FactStep {
     pub(crate) actor: Option<u64>,
     /// Where it is in the sources.
     pub(crate) location: Option<SourceLocation>,
+    /// When it was called.
+    pub(super) time: Option<CallTime>,
     pub(super) cells: Cells,
 }
 

@@ -26,9 +26,11 @@ pub(super) struct Failure {
 
 impl Failure {
     pub(super) fn of(run: &Run, names: &Names, history: &History) -> Failure {
+        // What failed in the window has failed behind its lead.
+        let place_of = |since| run.place_of_stamp(since).max(history.lead);
         let panics = names.ending.panics.iter().map(|panic| FailureAt {
             name: "the panic",
-            place: run.place_of_stamp(panic.since),
+            place: place_of(panic.since),
             actor: panic.actor,
             location: panic.location,
         });
@@ -36,7 +38,7 @@ impl Failure {
         let end = unwinding(&all, history).or(all.len().checked_sub(1));
         let error = names.ending.returned.as_ref().map(|error| FailureAt {
             name: "the error",
-            place: run.place_of_stamp(error.since),
+            place: place_of(error.since),
             actor: actor_of_test(names),
             location: error.location,
         });

@@ -1,9 +1,9 @@
 //! What happened to the handles of a run, and which actors used them. It passes over the entries
-//! once.
+//! once. What a window's lead has is none of what anybody did.
 
-use crate::names::Names;
+use crate::names::{ChannelWindow, Names};
 use crate::reply::Reply;
-use crate::run::{Loss, Run, RunEntry, Spec};
+use crate::run::{Loss, LossEnd, Run, RunEntry, Spec};
 use crate::word::Word;
 
 /// The calls by which a receiver is told something.
@@ -15,6 +15,15 @@ const RECEIVES: [Word; 7] = [
     Word::WaitFor,
     Word::Borrow,
     Word::HasChanged,
+];
+
+/// The calls by which a receiver of a watch marks a version as seen, where they return a value or are
+/// done.
+const MARKS: [Word; 4] = [
+    Word::Changed,
+    Word::Update,
+    Word::WaitFor,
+    Word::MarkUnchanged,
 ];
 
 /// The calls by which a receiver of a watch asks for a new version.
@@ -39,6 +48,28 @@ pub(super) struct HandleHistory {
     pub(super) last_value: u64,
     /// Whether it asked for a new version of a watch.
     pub(super) awaits: bool,
+    /// Whether it was there before the window, so that not all that it did is known.
+    pub(super) is_older: bool,
+    // Whether it looked at the version with which the window begins, and marked it, while that was
+    // the current one.
+    looked_first: bool,
+    marked_first: bool,
+}
+
+/// How many values, or changes of a watch, came to a handle.
+#[derive(Clone, Copy)]
+pub(super) struct Came {
+    pub(super) count: u64,
+    /// Whether these are all that the channel was sent, of which some may have come before the
+    /// handle.
+    pub(super) is_most: bool,
+}
+
+/// The values of a loss.
+pub(super) struct LostValues<'a> {
+    /// How many of them were overwritten before the window, which doesn't have them.
+    pub(super) before: u64,
+    pub(super) rest: &'a [SentValue],
 }
 
 /// What happened on a channel.
@@ -48,6 +79,9 @@ pub(super) struct ChannelHistory {
     /// The sends of a broadcast that reached a receiver, or the changes of a watch.
     pub(super) sends: Vec<SentValue>,
     handles: Vec<HandleHistory>,
+    // What its window leaves out, and how many sends its lead has.
+    window: Option<ChannelWindow>,
+    lead_sends: usize,
 }
 
 /// What an actor did.
@@ -66,6 +100,10 @@ struct ActorHistory {
 
 /// What happened in a run.
 pub(super) struct History {
+    /// How many entries lead to the window.
+    pub(super) lead: u64,
+    // The losses that didn't end before the window.
+    losses: Vec<Loss>,
     channels: Vec<ChannelHistory>,
     actors: Vec<ActorHistory>,
     // For the entry of each place, how many entries of the same channel are before it.
@@ -78,8 +116,13 @@ impl History {
     /// Passes over the entries of a run, of which these are the losses in the order in which they
     /// begin. The names say which calls are those of `wait_for`.
     pub(super) fn of(run: &Run, losses: &[Loss], names: &Names) -> History {
+        let channels = (0..).zip(run.specs());
+        let channels = channels.map(|(it, spec)| ChannelHistory::of(spec, names.window_of(it)));
+        let lead = names.lead();
         let mut history = History {
-            channels: run.specs().iter().map(ChannelHistory::of).collect(),
+            lead,
+            losses: behind(lead, losses),
+            channels: channels.collect(),
             actors: vec![],
             indexes: Vec::with_capacity(run.len() as usize),
             received: Vec::with_capacity(losses.len()),
@@ -93,13 +136,21 @@ impl History {
             history.indexes.push(*count);
             *count += 1;
             history.note(place, &entry);
-            history.begin_losses(place, losses);
+            history.begin_losses(place);
+        }
+        for loss in &mut history.losses {
+            let channel = &history.channels[loss.channel as usize];
+            let [real, here] = channel.lost_before(lead, loss);
+            loss.lost = loss.lost - here + real;
         }
         history
     }
 
     fn note(&mut self, place: u64, entry: &RunEntry) {
         let channel = &mut self.channels[entry.channel as usize];
+        if place <= self.lead {
+            return channel.note_lead(place, entry);
+        }
         channel.note(place, entry);
         let receives = channel.is_receive(entry);
         let sends = channel.is_sender(entry.handle) && entry.word != Word::Drop;
@@ -111,8 +162,8 @@ impl History {
     }
 
     /// Notes where the receivers received last whose losses begin at this place.
-    fn begin_losses(&mut self, place: u64, losses: &[Loss]) {
-        while let Some(loss) = losses.get(self.received.len()) {
+    fn begin_losses(&mut self, place: u64) {
+        while let Some(loss) = self.losses.get(self.received.len()).copied() {
             if loss.from > place {
                 return;
             }
@@ -124,6 +175,35 @@ impl History {
 
     pub(super) fn channel(&self, channel: u32) -> &ChannelHistory {
         &self.channels[channel as usize]
+    }
+
+    /// Returns the losses of the run. Those that lasted into the window have as many values as were
+    /// really lost.
+    pub(super) fn losses(&self) -> &[Loss] {
+        &self.losses
+    }
+
+    /// How many calls were made.
+    pub(super) fn calls(&self) -> u64 {
+        self.indexes.len() as u64 - self.lead
+    }
+
+    /// The first place worth a look: 0, or of a window the first one behind its lead.
+    pub(super) fn first_place(&self) -> u64 {
+        match self.lead {
+            0 => 0,
+            lead => (lead + 1).min(self.indexes.len() as u64),
+        }
+    }
+
+    /// Returns the values of a loss.
+    pub(super) fn lost(&self, loss: &Loss) -> LostValues<'_> {
+        let channel = self.channel(loss.channel);
+        let [before, here] = channel.lost_before(self.lead, loss);
+        LostValues {
+            before,
+            rest: channel.lost(loss.from, here, loss.lost - before),
+        }
     }
 
     /// How many entries of the same channel are before the entry that led to this place.
@@ -190,7 +270,7 @@ impl ActorHistory {
 }
 
 impl HandleHistory {
-    fn new(is_receiver: bool, sent_before: usize) -> HandleHistory {
+    fn new(is_receiver: bool, sent_before: usize, is_older: bool) -> HandleHistory {
         HandleHistory {
             is_receiver,
             sent_before,
@@ -198,23 +278,44 @@ impl HandleHistory {
             last_user: None,
             last_value: 0,
             awaits: false,
+            is_older,
+            looked_first: false,
+            marked_first: false,
         }
     }
 }
 
 impl ChannelHistory {
-    fn of(spec: &Spec<u64>) -> ChannelHistory {
+    fn of(spec: &Spec<u64>, window: Option<&ChannelWindow>) -> ChannelHistory {
+        let is_older = window.is_some();
         ChannelHistory {
             retained: match spec {
                 Spec::Broadcast(capacity) => capacity.next_power_of_two() as usize,
                 Spec::Watch(_) => 0,
             },
             sends: vec![],
-            handles: vec![HandleHistory::new(false, 0), HandleHistory::new(true, 0)],
+            handles: [false, true]
+                .map(|is_receiver| HandleHistory::new(is_receiver, 0, is_older))
+                .into(),
+            window: window.cloned(),
+            lead_sends: 0,
         }
     }
 
-    fn note(&mut self, place: u64, entry: &RunEntry) {
+    /// Notes an entry of the lead, which nobody made: what it sends and creates is there where the
+    /// window begins.
+    fn note_lead(&mut self, place: u64, entry: &RunEntry) {
+        self.note_sent(place, entry, true);
+        self.lead_sends = self.sends.len();
+        if let (Reply::Dropped, Some(handle)) =
+            (entry.reply, self.handles.get_mut(entry.handle as usize))
+        {
+            handle.sent_until = Some(self.sends.len());
+        }
+    }
+
+    /// Notes what is sent, and what is created.
+    fn note_sent(&mut self, place: u64, entry: &RunEntry, is_older: bool) {
         let sent = self.sends.len();
         match (entry.reply, entry.value) {
             // The replies to the sends of a broadcast, and to the calls that change a watch and
@@ -227,10 +328,17 @@ impl ChannelHistory {
                     entry.word,
                     Word::Subscribe | Word::Resubscribe | Word::CloneReceiver
                 );
-                self.handles.push(HandleHistory::new(is_receiver, sent));
+                self.handles
+                    .push(HandleHistory::new(is_receiver, sent, is_older));
             }
             _ => {}
         }
+    }
+
+    fn note(&mut self, place: u64, entry: &RunEntry) {
+        let sent = self.sends.len();
+        self.note_sent(place, entry, false);
+        let is_first = self.sends.len() == self.lead_sends;
         let is_receive = self.is_receive(entry);
         if let Some(handle) = self.handles.get_mut(entry.handle as usize) {
             if is_receive {
@@ -241,6 +349,11 @@ impl ChannelHistory {
                 Reply::Value(_) => handle.last_value = place,
                 Reply::Dropped => handle.sent_until = Some(sent),
                 _ => {}
+            }
+            if is_first {
+                handle.looked_first |= matches!(entry.reply, Reply::Value(_));
+                handle.marked_first |= MARKS.contains(&entry.word)
+                    && matches!(entry.reply, Reply::Value(_) | Reply::Done);
             }
         }
     }
@@ -260,12 +373,54 @@ impl ChannelHistory {
             .is_some_and(|handle| !handle.is_receiver)
     }
 
-    /// How many values were sent while a handle was alive.
-    pub(super) fn sent_to(&self, handle: u32) -> u64 {
-        self.handle(handle).map_or(0, |handle| {
-            let until = handle.sent_until.unwrap_or(self.sends.len());
-            (until - handle.sent_before) as u64
-        })
+    /// How many values were sent while a handle was alive. Of one that was there before the window,
+    /// it is how many the channel was sent, and of a watch how many came in the window.
+    pub(super) fn came_to(&self, handle: u32) -> Came {
+        let Some(handle) = self.handle(handle) else {
+            let count = 0;
+            return Came {
+                count,
+                is_most: false,
+            };
+        };
+        let until = handle.sent_until.unwrap_or(self.sends.len());
+        if !handle.is_older {
+            let count = (until - handle.sent_before) as u64;
+            return Came {
+                count,
+                is_most: false,
+            };
+        }
+        let before = self.window.as_ref().and_then(|window| window.sent);
+        let since = until.saturating_sub(self.lead_sends) as u64;
+        Came {
+            count: before.unwrap_or(0) + since,
+            is_most: before.is_some(),
+        }
+    }
+
+    /// Of how many changes of a watch that the lead makes a receiver is said to have missed and to
+    /// have never looked at.
+    pub(super) fn missed_in_lead(&self, handle: u32) -> [u64; 2] {
+        let Some(handle) = self.handle(handle) else {
+            return [0, 0];
+        };
+        let came = self.lead_sends.saturating_sub(handle.sent_before) as u64;
+        let all_but = |is_one| came.saturating_sub(u64::from(is_one));
+        [all_but(handle.marked_first), all_but(handle.looked_first)]
+    }
+
+    /// How many of a loss's values were overwritten before the window, really and by the lead.
+    fn lost_before(&self, lead: u64, loss: &Loss) -> [u64; 2] {
+        let until = self.sends.partition_point(|send| send.place <= lead);
+        let from = self.sends.partition_point(|send| send.place < loss.from);
+        let here = until.saturating_sub(from) as u64;
+        let lags = self.window.as_ref().map(|window| &window.lags);
+        let real = lags.and_then(|lags| lags.get(&loss.receiver.into()));
+        match real {
+            Some(real) if here > 0 => [*real, here],
+            _ => [here, here],
+        }
     }
 
     /// Returns the last change of a watch that came while a handle was alive.
@@ -274,12 +429,21 @@ impl ChannelHistory {
         self.sends[..until.unwrap_or(self.sends.len())].last()
     }
 
-    /// Returns the sends of the values that were lost, if a send at this place overwrote the first
-    /// of them.
-    pub(super) fn lost(&self, from: u64, count: u64) -> &[SentValue] {
+    /// Returns the sends of so many of the values that were lost, if a send at this place overwrote
+    /// the first of them, and so many others come before these.
+    fn lost(&self, from: u64, others: u64, count: u64) -> &[SentValue] {
         let first = self.sends.partition_point(|send| send.place < from);
-        let first = first.saturating_sub(self.retained);
+        let first = first.saturating_sub(self.retained) + others as usize;
         let last = (first + count as usize).min(self.sends.len());
         &self.sends[first..last]
     }
+}
+
+/// Returns the losses that didn't end in the lead.
+fn behind(lead: u64, losses: &[Loss]) -> Vec<Loss> {
+    let is_behind = |loss: &&Loss| match loss.end {
+        LossEnd::Told(place) | LossEnd::Dropped(place) => place > lead,
+        LossEnd::Open => true,
+    };
+    losses.iter().filter(is_behind).copied().collect()
 }

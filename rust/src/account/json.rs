@@ -1,8 +1,9 @@
 //! The account as JSON, which `yovanelum why --json` prints and a file of names has.
 
 use super::rest::KindCount;
+use super::window::WindowSaid;
 use super::{Account, Fact, FactStep, Rest, WaitAtEnd};
-use crate::names::{Json, SourceLocation};
+use crate::names::{Json, SourceLocation, push_string};
 use crate::run::{Loss, LossEnd};
 use std::fmt::Write;
 
@@ -16,6 +17,9 @@ impl Account {
         let mut out = format!("{{\n  \"version\": {VERSION}");
         push_member(&mut out, "calls", &Json::number(self.calls));
         push_member(&mut out, "channels", &Json::number(self.channels));
+        if let Some(window) = &self.window {
+            push_window(&mut out, window);
+        }
         let unknown = self.unknown.iter().map(|line| Json::text(line));
         push_member(&mut out, "unknown", &Json::List(unknown.collect()));
         push_lines(&mut out, "facts", self.facts.iter().map(fact));
@@ -33,6 +37,15 @@ impl Account {
 fn push_member(out: &mut String, key: &str, value: &Json) {
     let _ = write!(out, ",\n  \"{key}\": ");
     value.push(out);
+}
+
+/// Appends the window as the names have it, and what is said of it.
+fn push_window(out: &mut String, said: &WindowSaid) {
+    out.push_str(",\n  \"window\": {");
+    said.window.push_members(out);
+    out.push_str(", \"text\": ");
+    push_string(out, &said.text);
+    out.push('}');
 }
 
 /// Appends a list with each item on a line of its own.
@@ -82,13 +95,17 @@ fn fact(fact: &Fact) -> Json {
 
 /// A step of a fact, with the index of its line.
 fn place(index: usize, step: &FactStep) -> Json {
-    Json::object(vec![
+    let mut members = vec![
         ("place", Json::number(step.place)),
         ("role", Json::text(step.role.word())),
         ("line", Json::number(index + 1)),
         ("actor", optional_number(step.actor)),
         ("location", location_of(step.location.as_ref())),
-    ])
+    ];
+    if let Some(time) = step.time {
+        members.push(("time", Json::text(&time.iso())));
+    }
+    Json::object(members)
 }
 
 fn rest(rest: &Rest) -> Json {

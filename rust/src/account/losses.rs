@@ -3,7 +3,7 @@
 
 use super::fact::{Fact, FactStep, Role};
 use super::failure::FailureAt;
-use super::history::SentValue;
+use super::history::LostValues;
 use super::naming::Called;
 use super::{Context, visible};
 use crate::names::Json;
@@ -82,7 +82,7 @@ pub(super) fn found(context: &Context<'_>) -> Vec<Lost> {
     let waiting = context.names.waiting.iter();
     let waiting: BTreeSet<_> = waiting.map(|call| (call.channel, call.handle)).collect();
     let mut by_receiver: BTreeMap<_, Lost> = BTreeMap::new();
-    for (index, loss) in context.findings.losses().iter().enumerate() {
+    for (index, loss) in context.history.losses().iter().enumerate() {
         let key = (loss.channel, loss.receiver);
         let is_waited_for = waiting.contains(&(key.0.into(), key.1.into()));
         let rank = rank(context, &told_last, loss, is_waited_for);
@@ -140,7 +140,7 @@ pub(super) fn fact(context: &Context<'_>, lost: &Lost) -> Fact {
     } = context;
     let loss = &lost.told;
     let receiver = naming.receiver(loss.channel, loss.receiver);
-    let values = history.channel(loss.channel).lost(loss.from, loss.lost);
+    let values = history.lost(loss);
     let end = ToldEnd::of(context, loss);
     Fact {
         order: lost.rank.order(),
@@ -148,16 +148,44 @@ pub(super) fn fact(context: &Context<'_>, lost: &Lost) -> Fact {
         members: members(context, lost, &receiver, end),
         head: headline(context, lost, &receiver),
         steps: vec![
-            cause(context, loss, values, &receiver),
+            cause(context, loss, &values, &receiver),
             end_step(context, lost, end),
         ],
-        last: Some(format!("  lost: {}", naming.values(loss.channel, values))),
+        last: Some(lost_line(context, loss, &values)),
         sights: match end {
             ToldEnd::Told(_) => vec![1, 0],
             _ => vec![0, 1],
         },
-        look: loss.from,
+        look: look(context, loss, end),
     }
+}
+
+/// Returns the call that is worth looking at: the cause, or where that was before the window, the
+/// call that ended the loss, or else the first one.
+fn look(context: &Context<'_>, loss: &Loss, end: ToldEnd) -> u64 {
+    match end {
+        _ if loss.from > context.history.lead => loss.from,
+        ToldEnd::Told(place) | ToldEnd::Dropped(place) => place,
+        ToldEnd::Failure(_) | ToldEnd::Open => context.history.first_place(),
+    }
+}
+
+/// Returns the values that were lost, of which a window doesn't have those that were overwritten
+/// before it.
+fn lost_line(context: &Context<'_>, loss: &Loss, values: &LostValues<'_>) -> String {
+    let before = match values.before {
+        0 => String::new(),
+        count => format!(
+            "{}, overwritten before the window",
+            visible::counted(count, "value")
+        ),
+    };
+    let between = match (values.before, values.rest) {
+        (0, _) | (_, []) => "",
+        _ => "; ",
+    };
+    let rest = context.naming.values(loss.channel, values.rest);
+    format!("  lost: {before}{between}{rest}")
 }
 
 fn members(
@@ -167,16 +195,20 @@ fn members(
     end: ToldEnd,
 ) -> Vec<(&'static str, Json)> {
     let loss = &lost.told;
-    let sent = context.history.channel(loss.channel).sent_to(loss.receiver);
-    vec![
+    let came = context.history.channel(loss.channel).came_to(loss.receiver);
+    let mut members = vec![
         ("channel", Json::number(loss.channel)),
         ("receiver", Json::number(loss.receiver)),
         ("name", Json::text(&receiver.short)),
         ("lost", Json::number(lost.count)),
-        ("of", Json::number(sent)),
+        ("of", Json::number(came.count)),
         ("losses", Json::number(lost.losses)),
         ("end", Json::text(end.word())),
-    ]
+    ];
+    if came.is_most {
+        members.push(("at_most", Json::Bool(true)));
+    }
+    members
 }
 
 fn headline(context: &Context<'_>, lost: &Lost, receiver: &Called) -> String {
@@ -186,7 +218,8 @@ fn headline(context: &Context<'_>, lost: &Lost, receiver: &Called) -> String {
         lost: most,
         ..
     } = lost.told;
-    let sent = context.history.channel(channel).sent_to(number);
+    let came = context.history.channel(channel).came_to(number);
+    let at_most = if came.is_most { "at most " } else { "" };
     let which = match lost.rank {
         Rank::ToldLast(_) => "the one told before the failure",
         Rank::Told(..) => "the one told last",
@@ -197,10 +230,10 @@ fn headline(context: &Context<'_>, lost: &Lost, receiver: &Called) -> String {
         losses => format!(" in {losses} losses; {which}, of {most}:"),
     };
     format!(
-        "{} lost {} of {} of {} ({}){several}",
+        "{} lost {} of {at_most}{} of {} ({}){several}",
         receiver.full,
         lost.count,
-        visible::counted(sent, "value"),
+        visible::counted(came.count, "value"),
         context.naming.channel(channel),
         capacity(context, channel),
     )
@@ -217,12 +250,20 @@ fn capacity(context: &Context<'_>, channel: u32) -> String {
     }
 }
 
-/// Returns the send that overwrote the first value.
-fn cause(context: &Context<'_>, loss: &Loss, values: &[SentValue], receiver: &Called) -> FactStep {
+/// Returns the send that overwrote the first value. A window that begins behind it doesn't have it.
+fn cause(
+    context: &Context<'_>,
+    loss: &Loss,
+    values: &LostValues<'_>,
+    receiver: &Called,
+) -> FactStep {
+    if loss.from <= context.history.lead {
+        return context.step_before("the overwriting began".to_string());
+    }
     let naming = context.naming;
     let entry = context.run.entry(loss.from);
     let sent = naming.value(loss.channel, entry.value.unwrap_or(0));
-    let overwritten = naming.value(loss.channel, values[0].value);
+    let overwritten = naming.value(loss.channel, values.rest[0].value);
     let what = naming.method(loss.channel, &format!("send({sent})"));
     let short = &receiver.short;
     let said = format!("overwrote {overwritten}, which {short} had not read");
@@ -232,6 +273,7 @@ fn cause(context: &Context<'_>, loss: &Loss, values: &[SentValue], receiver: &Ca
 /// Returns how the loss ended, with the last value that the receiver received.
 fn end_step(context: &Context<'_>, lost: &Lost, end: ToldEnd) -> FactStep {
     let what = |said: &str| match lost.rank {
+        Rank::Held if is_older(context, lost) => "held, not read in the window".to_string(),
         Rank::Held => "held, never read".to_string(),
         _ => said.to_string(),
     };
@@ -252,11 +294,23 @@ fn end_step(context: &Context<'_>, lost: &Lost, end: ToldEnd) -> FactStep {
     }
 }
 
+/// Whether the receiver was there before the window.
+fn is_older(context: &Context<'_>, lost: &Lost) -> bool {
+    let channel = context.history.channel(lost.told.channel);
+    let receiver = channel.handle(lost.told.receiver);
+    receiver.is_some_and(|receiver| receiver.is_older)
+}
+
 /// Says which value the receiver received last. It receives none while it lags.
 fn last_receive(context: &Context<'_>, lost: &Lost) -> String {
     let place = context.history.received_before(lost.index);
     if place == 0 {
-        return "its last receive: none before".to_string();
+        let before = if is_older(context, lost) {
+            "in the window"
+        } else {
+            "before"
+        };
+        return format!("its last receive: none {before}");
     }
     let value = context.naming.returned(&context.run.entry(place));
     format!("its last receive: {}, {value}", visible::call(place))

@@ -82,7 +82,8 @@ impl<'a> Naming<'a> {
                 .and_then(|it| self.location(*it));
             return Called::named(self.actor(actor), first_call);
         }
-        let short = format!("receiver {receiver}");
+        let number = self.names.handle_number(channel, receiver.into());
+        let short = format!("receiver {number}");
         let full = match self.created_at(channel, receiver) {
             Some(location) => format!("{short} (created at {location})"),
             None => short.clone(),

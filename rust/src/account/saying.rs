@@ -57,7 +57,10 @@ impl Saying {
         let named = self.names.handles.get(&channel.into());
         match named.and_then(|handles| handles.get(&handle.into())) {
             Some(name) => visible::name(name),
-            None => format!("sender {handle}"),
+            None => format!(
+                "sender {}",
+                self.names.handle_number(channel, handle.into())
+            ),
         }
     }
 
@@ -93,6 +96,9 @@ impl Saying {
         match entry.reply {
             Reply::Value(value) | Reply::Old(value) | Reply::NoReceivers(value) => {
                 format!("{word} {}", self.value(entry.channel, value))
+            }
+            Reply::New(handle) => {
+                format!("{word} {}", self.names.handle_number(entry.channel, handle))
             }
             Reply::Told(flag) | Reply::Flag(flag) => format!("{word} {}", flag != 0),
             reply => match reply.number() {

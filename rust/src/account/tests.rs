@@ -5,7 +5,7 @@ use crate::names::Names;
 
 /// Returns the account of a run: its channels, its entries with the stamps 1, 2, 3, .., and the
 /// names beside it.
-fn account(channels: &[&str], entries: &[&str], names: &str) -> Account {
+pub(super) fn account(channels: &[&str], entries: &[&str], names: &str) -> Account {
     let mut text = format!("ttd-journal 2\n{}\nsteps\n", channels.join("\n"));
     for (entry, stamp) in entries.iter().zip(1..) {
         text += &format!("{stamp} {entry}\n");

@@ -23,7 +23,20 @@ pub(super) fn lines(context: &Context<'_>) -> Vec<String> {
     ];
     let channels = channels.into_iter().filter(|(count, _)| *count > 0);
     let channels = channels.map(|(count, what)| of_channels(count, what));
-    end_of_calls(context).into_iter().chain(channels).collect()
+    let before = before_window(context).into_iter();
+    before
+        .chain(end_of_calls(context))
+        .chain(channels)
+        .collect()
+}
+
+/// Says how many calls a window leaves out.
+fn before_window(context: &Context<'_>) -> Option<String> {
+    let window = context.names.window.as_ref()?;
+    let count: u64 = window.channels.values().map(|channel| channel.calls).sum();
+    let was = if count == 1 { "was" } else { "were" };
+    let calls = visible::counted(count, "call");
+    (count > 0).then(|| format!("{calls} {was} made before the window"))
 }
 
 /// Says that recording ended early, if it did. Names of before that was noted don't say so.

@@ -1,5 +1,6 @@
 //! The calls that still wait.
 
+use super::window::BEFORE;
 use super::{Context, visible};
 use crate::names::{HeldBy, SourceLocation, WaitingCall};
 
@@ -26,7 +27,10 @@ pub(super) fn all(context: &Context<'_>) -> Vec<WaitAtEnd> {
 }
 
 fn wait(context: &Context<'_>, call: &WaitingCall) -> WaitAtEnd {
-    let since = context.run.place_of_stamp(call.since);
+    let since = context
+        .run
+        .place_of_stamp(call.since)
+        .max(context.history.lead);
     let location = call.location.and_then(|index| context.naming.source(index));
     WaitAtEnd {
         actor: call.actor,
@@ -48,6 +52,7 @@ fn text(
     let naming = context.naming;
     let since = match since {
         0 => "the start".to_string(),
+        place if place == context.history.lead => BEFORE.to_string(),
         place => visible::call(place),
     };
     let at = location.map_or(String::new(), |location| {

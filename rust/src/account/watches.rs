@@ -27,7 +27,10 @@ pub(super) struct Overlooked {
 /// Returns the receivers that never looked at some changes, and then those that never marked some.
 pub(super) fn found(context: &Context<'_>) -> Vec<Overlooked> {
     let totals = context.findings.totals();
-    let mut looked: Vec<_> = totals.iter().filter_map(unlooked).collect();
+    let looked = totals.iter();
+    let mut looked: Vec<_> = looked
+        .filter_map(|totals| unlooked(context, totals))
+        .collect();
     // The sorts are stable: others are in the order of channel and number.
     looked.sort_by_key(|it| (!was_used(context, it), Reverse(it.count)));
     let marked = totals.iter().filter_map(|totals| unmarked(context, totals));
@@ -42,33 +45,38 @@ fn was_used(context: &Context<'_>, it: &Overlooked) -> bool {
     receiver.is_some_and(|receiver| receiver.last_user.is_some())
 }
 
+/// How many changes a receiver missed, and how many it never looked at. Those of a lead are none.
+fn counts(context: &Context<'_>, totals: &Totals) -> Option<[u64; 2]> {
+    let Counts::Watch(counts) = totals.counts else {
+        return None;
+    };
+    let channel = context.history.channel(totals.channel);
+    let [missed, unlooked] = channel.missed_in_lead(totals.receiver);
+    Some([counts.missed - missed, counts.unlooked - unlooked])
+}
+
 /// Returns the receiver if it never looked at some changes.
-fn unlooked(totals: &Totals) -> Option<Overlooked> {
-    match totals.counts {
-        Counts::Watch(counts) if counts.unlooked > 0 => Some(Overlooked {
-            what: Unreceived::Looked,
-            count: counts.unlooked,
-            channel: totals.channel,
-            receiver: totals.receiver,
-        }),
-        _ => None,
-    }
+fn unlooked(context: &Context<'_>, totals: &Totals) -> Option<Overlooked> {
+    let [_, unlooked] = counts(context, totals)?;
+    (unlooked > 0).then_some(Overlooked {
+        what: Unreceived::Looked,
+        count: unlooked,
+        channel: totals.channel,
+        receiver: totals.receiver,
+    })
 }
 
 /// Returns the receiver if it asked for new versions, and looked at some that it never marked:
 /// `changed` tells of them once more.
 fn unmarked(context: &Context<'_>, totals: &Totals) -> Option<Overlooked> {
-    let Counts::Watch(counts) = totals.counts else {
-        return None;
-    };
+    let [missed, unlooked] = counts(context, totals)?;
     let Totals {
         channel, receiver, ..
     } = *totals;
     let handle = context.history.channel(channel).handle(receiver)?;
-    let has_others = counts.missed > counts.unlooked;
-    (handle.awaits && has_others).then_some(Overlooked {
+    (handle.awaits && missed > unlooked).then_some(Overlooked {
         what: Unreceived::Marked,
-        count: counts.missed,
+        count: missed,
         channel,
         receiver,
     })
@@ -83,12 +91,18 @@ pub(super) fn fact(context: &Context<'_>, overlooked: &Overlooked) -> Fact {
         receiver,
     } = *overlooked;
     let called = context.naming.receiver(channel, receiver);
-    let came = context.history.channel(channel).sent_to(receiver);
+    let history = context.history.channel(channel);
+    let came = history.came_to(receiver).count;
     let of = visible::counted(came, "change");
     let changes = format!("{count} of {of} of {}", context.naming.channel(channel));
+    let is_older = history.handle(receiver).is_some_and(|it| it.is_older);
+    let here = if is_older { " in the window" } else { "" };
     let (order, kind, said) = match what {
-        Unreceived::Looked => (5, "unlooked", format!("never looked at {changes}")),
-        Unreceived::Marked => (6, "unmarked", format!("never marked {changes} as seen")),
+        Unreceived::Looked => (5, "unlooked", format!("never looked at {changes}{here}")),
+        Unreceived::Marked => {
+            let said = format!("never marked {changes} as seen{here}");
+            (6, "unmarked", said)
+        }
     };
     let steps = steps(context, channel, receiver);
     let mut sights: Vec<_> = (0..steps.len()).collect();

@@ -111,6 +111,21 @@ impl Recorded {
         self.look
     }
 
+    /// How many calls lead to the window in which the run begins. Nobody has made them.
+    pub fn lead(&self) -> u64 {
+        self.saying.names().lead()
+    }
+
+    /// Returns by how many values a receiver really lags that lags by so many in the journal: a
+    /// window may let one lag by 1 of which none of its calls tells.
+    pub fn lag(&self, channel: u32, handle: u32, lag: u64) -> u64 {
+        let window = self.saying.names().window_of(channel);
+        match window.and_then(|window| window.lags.get(&handle.into())) {
+            Some(real) if lag > 0 => real + lag - 1,
+            _ => lag,
+        }
+    }
+
     pub fn actor(&self, actor: u32) -> String {
         self.saying.actor(actor.into())
     }

@@ -142,6 +142,11 @@ fn optional_indexes(value: Json) -> Result<Vec<Option<usize>>, String> {
 }
 
 pub(super) fn optional_index(value: Json) -> Result<Option<usize>, String> {
+    optional(value)
+}
+
+/// Reads a number, or null.
+pub(super) fn optional<N: TryFrom<u64>>(value: Json) -> Result<Option<N>, String> {
     match value {
         Json::Null => Ok(None),
         value => number(value).map(Some),

@@ -3,7 +3,7 @@
 
 use super::json::Json;
 use super::reading::{by_number, list, number, object, optional_text, text_of};
-use super::{push_list, push_member, push_number, push_object, push_optional, push_string};
+use super::{Names, push_list, push_member, push_number, push_object, push_optional, push_string};
 use crate::clock::Moment;
 use std::collections::BTreeMap;
 use std::fmt::Write;
@@ -39,26 +39,57 @@ pub(crate) struct ChannelWindow {
     pub(crate) lags: BTreeMap<u64, u64>,
 }
 
+impl Names {
+    /// How many entries of the journal lead to its window. It is 0 where there is none.
+    pub(crate) fn lead(&self) -> u64 {
+        self.window.as_ref().map_or(0, |window| window.lead)
+    }
+
+    /// Returns how the window of a channel begins. Returns `None` where all its calls are there.
+    pub(crate) fn window_of(&self, channel: u32) -> Option<&ChannelWindow> {
+        let channels = &self.window.as_ref()?.channels;
+        channels.get(&channel.into()).filter(|it| it.lead > 0)
+    }
+
+    /// Returns the number by which texts call a handle: its real one.
+    pub(crate) fn handle_number(&self, channel: u32, handle: u64) -> String {
+        let window = self.window.as_ref();
+        let channel = window.and_then(|window| window.channels.get(&channel.into()));
+        let number = channel.and_then(|channel| channel.handles.get(handle as usize));
+        match number {
+            Some(Some(number)) => number.to_string(),
+            Some(None) => format!("{handle} of the lead"),
+            None => handle.to_string(),
+        }
+    }
+}
+
 /// Appends the window and the times, unless there are none.
 pub(super) fn push(out: &mut String, window: Option<&WindowNames>, times: &[Moment]) {
     if let Some(window) = window {
-        push_member(out, "window", |out| push_window(out, window));
+        push_member(out, "window", |out| {
+            out.push('{');
+            window.push_members(out);
+            out.push('}');
+        });
     }
     if !times.is_empty() {
         push_member(out, "times", |out| push_list(out, times, push_moment));
     }
 }
 
-fn push_window(out: &mut String, window: &WindowNames) {
-    out.push_str("{\"trigger\": ");
-    push_string(out, &window.trigger);
-    out.push_str(", \"reason\": ");
-    push_string(out, &window.reason);
-    out.push_str(", \"at\": ");
-    push_optional(out, &window.at);
-    let _ = write!(out, ", \"lead\": {}, \"channels\": ", window.lead);
-    push_object(out, &window.channels, push_channel);
-    out.push('}');
+impl WindowNames {
+    /// Appends its members, on one line.
+    pub(crate) fn push_members(&self, out: &mut String) {
+        out.push_str("\"trigger\": ");
+        push_string(out, &self.trigger);
+        out.push_str(", \"reason\": ");
+        push_string(out, &self.reason);
+        out.push_str(", \"at\": ");
+        push_optional(out, &self.at);
+        let _ = write!(out, ", \"lead\": {}, \"channels\": ", self.lead);
+        push_object(out, &self.channels, push_channel);
+    }
 }
 
 fn push_channel(out: &mut String, channel: &ChannelWindow) {
@@ -131,7 +162,6 @@ pub(super) fn times(value: Json) -> Result<Vec<Moment>, String> {
 #[cfg(test)]
 mod tests {
     use super::*;
-    use crate::names::Names;
 
     fn example() -> Names {
         let prices = ChannelWindow {
@@ -159,6 +189,43 @@ mod tests {
                 since_start: 17_000_250,
             }],
             ..Names::default()
+        }
+    }
+
+    #[test]
+    fn handles_are_called_by_their_real_numbers() {
+        let names = example();
+        let numbers = [0, 1, 2, 3].map(|handle| names.handle_number(0, handle));
+        assert_eq!(numbers, ["0", "41", "2 of the lead", "3"]);
+        assert_eq!(names.handle_number(7, 3), "3");
+        assert_eq!(Names::default().handle_number(0, 1), "1");
+        assert_eq!((names.lead(), Names::default().lead()), (117, 0));
+    }
+
+    #[test]
+    fn what_is_wrong_is_said_with_its_key() {
+        let json = example().to_json();
+        for (part, wrong, fault) in [
+            ("\"lag\"", "1", "its `window`: no text"),
+            (
+                "\"lead\": 117",
+                "\"lead\": -1",
+                "its `window`: no number, or one that is too great",
+            ),
+            (
+                "\"at\": 1795930965120",
+                "\"at\": \"today\"",
+                "its `window`: no number, or one that is too great",
+            ),
+            (
+                "\"1\": {\"lead\"",
+                "\"x\": {\"lead\"",
+                "its `window`: `x` is no number",
+            ),
+            ("[0, 41, null]", "{}", "its `window`: no list"),
+        ] {
+            let text = json.replacen(part, wrong, 1);
+            assert_eq!(Names::read(&text), Err(fault.to_string()), "{text}");
         }
     }
 

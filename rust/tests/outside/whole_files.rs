@@ -9,6 +9,7 @@ use std::fs;
 use std::io::{BufRead, BufReader, Read, Write};
 use std::path::{Path, PathBuf};
 use std::process::{Child, ChildStderr, Command, Stdio};
+use std::thread;
 use std::time::{Duration, SystemTime};
 
 /// How many rounds two processes write their files side by side.
@@ -23,6 +24,17 @@ fn command_of(program: &Path) -> Command {
     let mut command = workspace().shell(&line);
     command.env("LATE", "Ann").stdout(Stdio::null());
     command
+}
+
+/// How much the time of a file may be behind the clock, for the crate.
+const TICK: Duration = Duration::from_millis(10);
+
+/// Waits until this file is too old to have been written since a process that begins now.
+fn wait_until_written_before(file: &Path) {
+    let written = fs::metadata(file).unwrap().modified().unwrap();
+    while SystemTime::now() <= written + TICK {
+        thread::yield_now();
+    }
 }
 
 /// The journals of the test `race` in this folder.
@@ -46,7 +58,11 @@ fn the_files_of_processes_side_by_side_are_whole() {
     let depot = program("depot", "my-bus");
     let journals = [("my-shop", &shop), ("depot", &depot)]
         .map(|(package, _)| files().join(package).join("test-my-bus/race.journal"));
-    for _ in 0..ROUNDS {
+    for round in 0..ROUNDS {
+        if round > 0 {
+            // Else it counts as one of a process that runs at the same time.
+            wait_until_written_before(&journals[1]);
+        }
         // Two of one test, and one of another package's of that name.
         let children = [&shop, &shop, &depot]
             .map(|program| command_of(program).stderr(Stdio::null()).spawn().unwrap());

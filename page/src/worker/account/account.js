@@ -1,21 +1,24 @@
 // The account of a run whose names have none: what was found, in the order and in the words of the report of a failing test.
 
 import { closedFact, closedIn, isKnown } from "./closed.js";
+import { timeOf, windowText } from "../../run/lead.js";
 import { History } from "./history.js";
 import { lossFact, lostIn, overlookedFact, overlookedIn } from "./missed.js";
 import { Naming } from "./naming.js";
-import { aligned, counted, lineOf, nameOf } from "./words.js";
+import { aligned, counted, escaped, lineOf, nameOf } from "./words.js";
 
 // How a test failed, as places of its run: its panics, which of them ended it, or the error that it returned.
 class Failure {
   constructor({ panics, returned, test }, tables, history) {
-    this.all = panics.map(({ actor, since, location }) => ({ name: "the panic", place: history.placeOf(since), actor, location }));
+    // What failed in the window has failed behind its lead.
+    const placeOf = since => Math.max(history.placeOf(since), history.lead);
+    this.all = panics.map(({ actor, since, location }) => ({ name: "the panic", place: placeOf(since), actor, location }));
     // The first panic after which its actor made no calls but drops: one that goes on has caught its panic.
     const ended = this.all.findIndex(({ actor, place }) => actor !== null && history.lastCall(actor) <= place);
     this.end = this.all[ended] ?? this.all.at(-1) ?? null;
     if (returned === null) return;
     const found = Object.entries(tables.actors).find(([, name]) => name === test);
-    this.end = { name: "the error", place: history.placeOf(returned.since), actor: found ? Number(found[0]) : null, location: returned.location };
+    this.end = { name: "the error", place: placeOf(returned.since), actor: found ? Number(found[0]) : null, location: returned.location };
     this.all.push(this.end);
   }
 
@@ -46,21 +49,28 @@ const UNRECORDED = [
 
 // What is known of a run, and how its text calls it.
 class Context {
-  constructor(history, naming, failure, found, waiting) {
+  constructor(history, naming, failure, found, waiting, times) {
     this.history = history;
+    this.times = times;
     this.naming = naming;
     this.failure = failure;
     this.waiting = waiting;
-    this.losses = found.losses;
     this.totals = found.totals;
     this.closings = found.closings;
   }
 
   // The step that led to a place, with what was called and what there is to say of it.
   step(place, role, what, said) {
-    const { actor, channel } = this.history.entry(place);
+    const { actor, channel, stamp } = this.history.entry(place);
     const location = this.naming.sourceOf(channel, place);
-    return { place, role, actor, location, cells: [`call ${place}`, what, this.naming.actor(actor), location ? lineOf(location) : "", said] };
+    const time = timeOf(this.history.window, this.times, Number(stamp));
+    const cells = [`call ${place}`, what, this.naming.actor(actor), location ? lineOf(location) : "", [said, time?.text].filter(it => it).join("; ")];
+    return { place, role, actor, location, time: time?.iso, cells };
+  }
+
+  // What caused a fact before the window, at the place where that begins.
+  stepBefore(what) {
+    return { place: this.history.lead, role: "cause", actor: null, location: null, cells: ["before the window", what, "", "", ""] };
   }
 
   // What ended the test as a step.
@@ -79,7 +89,8 @@ class Context {
 // Why not all of the run is known, one reason for each line.
 function unknownIn({ history }, ending) {
   const { unrecorded } = ending;
-  const early = [];
+  const before = Object.values(history.window?.channels ?? {}).reduce((sum, { calls }) => sum + calls, 0);
+  const early = before > 0 ? [`${counted(before, "call")} ${before === 1 ? "was" : "were"} made before the window`] : [];
   if (unrecorded.calls) early.push(`recording ended at call ${history.length}, before the test did`);
   else if (ending.journal === null && history.channels.some(({ entries }) => entries >= MOST_ENTRIES)) {
     early.push(`the journal ends at call ${history.length}, since a channel has as many as a journal takes`);
@@ -89,11 +100,12 @@ function unknownIn({ history }, ending) {
 }
 
 function waitOf({ naming, history }, { actor, channel, handle, call, since: stamp, location: index, held_by: holder }) {
-  const since = history.placeOf(stamp);
+  const since = Math.max(history.placeOf(stamp), history.lead);
+  const began = since === 0 ? "the start" : since === history.lead ? "before the window" : `call ${since}`;
   const at = naming.line(index);
   const held = !holder ? "" : holder.actor === null ? ", for the lock of the value"
     : `, for a look taken${naming.line(holder.location) && ` at ${naming.line(holder.location)}`} by ${naming.actor(holder.actor)}`;
-  const text = `${naming.actor(actor)} in \`${naming.method(channel, nameOf(call))}\` since ${since === 0 ? "the start" : `call ${since}`}${at && `, ${at}`}${held}`;
+  const text = `${naming.actor(actor)} in \`${naming.method(channel, nameOf(call))}\` since ${began}${at && `, ${at}`}${held}`;
   return { actor, channel, handle, call, since, location: naming.source(index), text };
 }
 
@@ -101,7 +113,7 @@ function worded(context, finding) {
   const { head, steps, last, ...fact } = FACTS[finding.kind](context, finding);
   return {
     ...fact, text: [head, ...aligned(steps.map(({ cells }) => cells)), ...(last === null ? [] : [last])],
-    places: steps.map(({ place, role, actor, location }, i) => ({ place, role, line: i + 1, actor, location })),
+    places: steps.map(({ place, role, actor, location, time }, i) => ({ place, role, line: i + 1, actor, location, ...(time ? { time } : {}) })),
   };
 }
 
@@ -131,27 +143,27 @@ function toldInFull(findings) {
   return Math.min(known > 0 ? known : findings.length, MOST_TOLD);
 }
 
-function nothingText({ history, losses }, unknown, facts) {
-  const of = `${counted(history.length, "call")} on ${counted(history.channels.length, "channel")}`;
-  if (unknown.length === 0 && losses.length === 0) return `no value was lost in ${of}`;
+function nothingText({ history }, unknown, facts) {
+  const of = `${counted(history.calls, "call")} on ${counted(history.channels.length, "channel")}`;
+  if (unknown.length === 0 && history.losses.length === 0) return `no value was lost in ${of}`;
   return unknown.length > 0 && facts.length === 0 ? `nothing was found in ${of}` : null;
 }
 
 // Makes the account of the run of this journal text. `found` has its losses, totals and closings, and `names` what a file of names says of it.
 /** @returns {Account} */
-export function accountOf(journal, channels, count, found, { tables, waited, waiting, ending }) {
-  const history = new History(journal, channels, count, found.losses, waited);
+export function accountOf(journal, channels, count, found, { tables, waited, waiting, ending, window, times }) {
+  const history = new History(journal, channels, count, found.losses, waited, window);
   const naming = new Naming(tables, waited, history);
   const failure = new Failure(ending, tables, history);
   const here = waiting.filter(({ channel }) => channel < channels.length);
-  const context = new Context(history, naming, failure, found, here);
+  const context = new Context(history, naming, failure, found, here, times);
   const findings = [...lostIn(context), ...overlookedIn(context), ...closedIn(context)];
   const unknown = unknownIn(context, ending);
   const facts = findings.slice(0, MOST_FACTS).map(it => worded(context, it));
   const after = toldInFull(findings);
   const place = failure.end?.place ?? null;
   return {
-    version: 1, unknown, facts, rest: { after, text: restText(findings, after) }, nothing: nothingText(context, unknown, facts),
-    waiting: here.map(it => waitOf(context, it)), failure: place, look: facts[0]?.look ?? place ?? count,
+    version: 1, ...(window ? { window: { ...window, text: windowText(window, count, escaped) } } : {}), unknown, facts, rest: { after, text: restText(findings, after) }, nothing: nothingText(context, unknown, facts),
+    waiting: here.map(it => waitOf(context, it)), failure: place, look: facts[0]?.look ?? Math.max(place ?? count, history.firstPlace),
   };
 }

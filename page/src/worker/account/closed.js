@@ -11,13 +11,13 @@ export function isKnown({ receivers }) {
 }
 
 // Returns the channels that had a receiver where they closed, first those of which a receiver wasn't told. What closed after the end began is left
-// out: that was the unwinding.
-export function closedIn({ closings, failure }) {
+// out: that was the unwinding. What closed before the window is none of the run.
+export function closedIn({ closings, failure, history }) {
   const closed = closings.places.map((place, channel) => ({
     kind: "closing", channel, place,
     receivers: [...closings.told[channel]].map(([receiver, told]) => ({ receiver, told, readOn: closings.readOn[channel].get(receiver) })),
   }));
-  return closed.filter(({ place, receivers }) => place !== null && receivers.length > 0 && failure.isBeforeEnd(place))
+  return closed.filter(({ place, receivers }) => place !== null && place > history.lead && receivers.length > 0 && failure.isBeforeEnd(place))
     .sort((a, b) => Number(isKnown(a)) - Number(isKnown(b)) || a.place - b.place);
 }
 

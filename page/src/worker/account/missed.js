@@ -37,7 +37,7 @@ function add(lost, loss, index, rank) {
 export function lostIn(context) {
   const toldLast = context.failure.toldLast(context.history);
   const byReceiver = new Map();
-  context.losses.forEach((loss, index) => {
+  context.history.losses.forEach((loss, index) => {
     const key = loss.channel * 2 ** 20 + loss.receiver;
     if (!byReceiver.has(key)) byReceiver.set(key, { kind: "loss", key, count: 0, losses: 0 });
     add(byReceiver.get(key), loss, index, rankOf(context, toldLast, loss));
@@ -51,46 +51,67 @@ function capacityText({ given, retained }) {
 
 function headOf({ history, naming }, { loss, losses, count, rank }) {
   const several = losses === 1 ? "" : ` in ${losses} losses; ${WHICH[rank[0]]}, of ${loss.lost}:`;
-  const sent = counted(history.sentTo(loss.channel, loss.receiver), "value");
+  const came = history.cameTo(loss.channel, loss.receiver);
+  const sent = `${came.isMost ? "at most " : ""}${counted(came.count, "value")}`;
   const capacity = capacityText(history.channels[loss.channel]);
   return `${naming.receiver(loss.channel, loss.receiver).full} lost ${count} of ${sent} of ${naming.channel(loss.channel)} (${capacity})${several}`;
 }
 
 function causeOf(context, { channel, receiver, from }, first) {
-  const { naming } = context;
+  const { naming, history } = context;
+  if (from <= history.lead) return context.stepBefore("the overwriting began");
   const said = `overwrote ${naming.sent(channel, first)}, which ${naming.receiver(channel, receiver).short} had not read`;
   return context.step(from, "cause", naming.method(channel, `send(${naming.sent(channel, from)})`), said);
 }
 
+function isOlder({ history }, { channel, receiver }) {
+  return history.handle(channel, receiver)?.isOlder ?? false;
+}
+
 // The last value that the receiver received. It receives none while it lags.
-function lastReceive({ history, naming }, index) {
+function lastReceive(context, { loss, index }) {
+  const { history, naming } = context;
   const place = history.received[index];
-  return place === 0 ? "its last receive: none before" : `its last receive: call ${place}, ${naming.returned(history.entry(place))}`;
+  return place === 0 ? `its last receive: none ${isOlder(context, loss) ? "in the window" : "before"}` : `its last receive: call ${place}, ${naming.returned(history.entry(place))}`;
 }
 
 // How the loss ended. A drop after the end began tells nothing: the test had failed before.
-function endOf(context, { loss, index, rank }) {
+function endOf(context, lost) {
   const { failure } = context;
+  const { loss, rank } = lost;
   const isHeld = rank[0] === HELD;
-  const what = said => (isHeld ? "held, never read" : said);
-  const last = isHeld ? "" : lastReceive(context, index);
+  const what = said => (!isHeld ? said : isOlder(context, loss) ? "held, not read in the window" : "held, never read");
+  const last = isHeld ? "" : lastReceive(context, lost);
   if (loss.end === "told") return ["told", context.step(loss.to, "told", `told: lagged ${loss.lost}`, last)];
   if (loss.end === "dropped" && failure.isBeforeEnd(loss.to)) return ["dropped", context.step(loss.to, "dropped", what("dropped: never told"), last)];
   if (failure.end !== null && loss.from <= failure.end.place) return ["failure", context.failureStep(what("not told"), last)];
   return ["open", context.endStep(what("not told"), last)];
 }
 
+// The values that were lost, of which a window doesn't have those that were overwritten before it.
+function lostLine({ naming }, { channel }, { before, rest }) {
+  const older = before > 0 ? [`${counted(before, "value")}, overwritten before the window`] : [];
+  return `  lost: ${[...older, ...(rest.length > 0 ? [listText(rest, place => naming.sent(channel, place))] : [])].join("; ")}`;
+}
+
+// The call that is worth looking at: the cause, or where that was before the window, the call that ended the loss, or else the first one.
+function lookOf({ history }, { from, to }, end) {
+  if (from > history.lead) return from;
+  return end === "told" || end === "dropped" ? to : history.firstPlace;
+}
+
 // Puts the losses of a receiver into words.
 export function lossFact(context, lost) {
   const { history, naming } = context;
   const { loss, rank } = lost;
-  const sends = history.lost(loss.channel, loss.from, loss.lost);
+  const values = history.lost(loss);
   const [end, ending] = endOf(context, lost);
+  const came = history.cameTo(loss.channel, loss.receiver);
   return {
     kind: "loss", order: rank[0], channel: loss.channel, receiver: loss.receiver, name: naming.receiver(loss.channel, loss.receiver).short,
-    lost: lost.count, of: history.sentTo(loss.channel, loss.receiver), losses: lost.losses, end,
-    head: headOf(context, lost), steps: [causeOf(context, loss, sends[0]), ending],
-    last: `  lost: ${listText(sends, place => naming.sent(loss.channel, place))}`, look: loss.from,
+    lost: lost.count, of: came.count, losses: lost.losses, end, ...(came.isMost ? { at_most: true } : {}),
+    head: headOf(context, lost), steps: [causeOf(context, loss, values.rest[0]), ending],
+    last: lostLine(context, loss, values), look: lookOf(context, loss, end),
   };
 }
 
@@ -100,7 +121,10 @@ const METHODS = { "send-replace": "send_replace", modify: "send_modify", update:
 
 // Returns the receivers that never looked at some changes, and then those that never marked some.
 export function overlookedIn({ totals, history }) {
-  const ofWatches = totals.filter(({ missed }) => missed !== null).map(it => ({ ...it, handle: history.handle(it.channel, it.receiver) }));
+  const ofWatches = totals.filter(({ missed }) => missed !== null).map(it => {
+    const [missed, unlooked] = history.missedInLead(it.channel, it.receiver);
+    return { ...it, missed: it.missed - missed, unlooked: it.unlooked - unlooked, handle: history.handle(it.channel, it.receiver) };
+  });
   const unlooked = ofWatches.filter(it => it.unlooked > 0).map(it => ({ ...it, kind: "unlooked", count: it.unlooked }));
   const unmarked = ofWatches.filter(it => it.handle?.awaits && it.missed > it.unlooked).map(it => ({ ...it, kind: "unmarked", count: it.missed }));
   const isUnused = ({ handle }) => Number(handle?.lastUser === null);
@@ -123,9 +147,9 @@ function stepOf(context, place, role) {
 // Puts what a receiver never looked at, or never marked, into words.
 export function overlookedFact(context, { kind, count, channel, receiver, handle }) {
   const { history, naming } = context;
-  const came = history.sentTo(channel, receiver);
+  const came = history.cameTo(channel, receiver).count;
   const changes = `${count} of ${counted(came, "change")} of ${naming.channel(channel)}`;
-  const said = kind === "unlooked" ? `never looked at ${changes}` : `never marked ${changes} as seen`;
+  const said = `${kind === "unlooked" ? `never looked at ${changes}` : `never marked ${changes} as seen`}${handle.isOlder ? " in the window" : ""}`;
   const known = [[history.lastSentTo(channel, receiver), "change"], [handle.lastValue, "look"]].filter(([place]) => place > 0).sort((a, b) => a[0] - b[0]);
   const steps = known.map(([place, role]) => stepOf(context, place, role));
   const { short, full } = naming.receiver(channel, receiver);

@@ -1,5 +1,6 @@
 // What an account calls the things of a run: by their names, and by their numbers where they have none.
 
+import { numberOf } from "../../run/lead.js";
 import { lineOf, nameOf, quotedText } from "./words.js";
 
 function lookUp(table, key) {
@@ -37,7 +38,7 @@ export class Naming {
     if (own !== undefined) return called(nameOf(own));
     const reader = this.history.reader(channel, receiver);
     if (reader !== null && lookUp(this.tables.actors, reader) !== undefined) return called(this.actor(reader), this.line(lookUp(this.tables.tasks, reader)));
-    const short = `receiver ${receiver}`;
+    const short = `receiver ${numberOf(this.history.window, channel, receiver)}`;
     const made = this.line(lookUp(lookUp(this.tables.made, channel), receiver));
     return { short, full: made ? `${short} (created at ${made})` : short };
   }

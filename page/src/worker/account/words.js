@@ -12,7 +12,8 @@ const ESCAPES = { "\0": "\\0", "\t": "\\t", "\n": "\\n", "\r": "\\r" };
 // What Rust's `Debug` for texts escapes: what can't be seen, and what combines with the character before it.
 const HIDDEN = /(?! )[\p{Cc}\p{Cf}\p{Cs}\p{Co}\p{Cn}\p{Zl}\p{Zp}\p{Zs}\p{Grapheme_Extend}]/gu;
 
-function escaped(text) {
+// A text on one line.
+export function escaped(text) {
   return text.replace(HIDDEN, it => ESCAPES[it] ?? `\\u{${it.codePointAt(0).toString(16)}}`);
 }
 

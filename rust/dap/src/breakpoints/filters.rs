@@ -80,7 +80,8 @@ impl Breakpoints {
 fn places_of(filter: &str, recording: &Recording) -> Answer<Places> {
     match filter {
         "lost" => {
-            let mut places: Places = recording.losses.iter().map(|loss| loss.from).collect();
+            let places = recording.losses.iter().map(|loss| loss.from);
+            let mut places: Places = places.filter(|place| *place > recording.first()).collect();
             places.sort_unstable();
             places.dedup();
             Ok(places)

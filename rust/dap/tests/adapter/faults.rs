@@ -79,7 +79,7 @@ fn names_that_do_not_fit_are_left_out_and_changed_sources_are_said() {
     for (changed, said) in [
         (
             names.replace("\"version\": 3", "\"version\": 9"),
-            "its `version`: 9 is later than 3, the last one that this program reads",
+            "its `version`: 9 is later than 4, the last one that this program reads",
         ),
         (
             with_checksum(&names, "journal"),

@@ -8,3 +8,4 @@ mod session;
 mod states;
 mod support;
 mod vscode;
+mod windows;

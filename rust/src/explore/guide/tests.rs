@@ -31,8 +31,11 @@ fn look() -> Vec<Known> {
     ]
 }
 
-/// A guide that is never led by chance.
+/// A guide that is never led by chance, where no receiver lags and none is gone.
 fn guide(condition: &str) -> Guide {
+    // WebAssembly runs all tests on one thread.
+    LAGS.take();
+    GONE.take();
     Guide::to(condition.parse().unwrap(), 4, 20, look)
 }
 
