@@ -9,6 +9,7 @@
 //! | [`replay`] | make the calls of a failing run again, in their order |
 //! | [`explore`] | look for an order that fails; loom and shuttle beside it |
 //! | [`service`] | lags, closed channels and health of a running service |
+//! | [`flight`] | the last calls of a running service, when it lags |
 //! | [`limits`] | what differs from tokio, and how much a recorder keeps |
 //! | [`speed`] | what a recorded call costs |
 //! | [`platforms`] | where it runs, and where its tests ran |
@@ -85,11 +86,19 @@ pub mod explore {}
 /// [`ChannelSnapshot::of`]: crate::ChannelSnapshot::of
 pub mod service {}
 
+#[doc = include_str!("guide/flight.md")]
+///
+/// [`Recorder::dump`]: crate::Recorder::dump
+/// [`Recorder::dumps`]: crate::Recorder::dumps
+/// [`Recorder::for_test`]: crate::Recorder::for_test
+pub mod flight {}
+
 #[doc = include_str!("guide/limits.md")]
 ///
 /// [`block_on`]: crate::block_on
 /// [`named`]: crate::named()
 /// [`guide::swap`]: crate::guide::swap
+/// [`guide::flight`]: crate::guide::flight
 pub mod limits {}
 
 #[doc = include_str!("guide/speed.md")]

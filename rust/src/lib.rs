@@ -60,6 +60,7 @@
 //! | make a rare failure happen | [`guide::explore`] |
 //! | see where a test hangs | [`ForTest::watchdog`], [`Recorder::waiting`] |
 //! | learn of each lag in a service, and of its health | [`on_lag`], [`on_close`], [`snapshot`]: [`guide::service`] |
+//! | have the last calls of a service when it lags | [`Recorder::flight`]: [`guide::flight`] |
 //! | walk through a run in a program | [`debugger::Walk`] |
 //! | know what differs from tokio, the limits and the cost | [`guide::limits`], [`guide::speed`] |
 //! | know what is proved | [`guide::proofs`] |

@@ -138,26 +138,32 @@ impl Names {
 
     /// Returns the document. What is empty is left out, unless version 1 had it.
     pub(crate) fn to_json(&self) -> String {
+        let mut out = String::new();
+        self.push_json(&mut out);
+        out
+    }
+
+    /// Appends the document.
+    pub(crate) fn push_json(&self, out: &mut String) {
         let version = match self.window {
             Some(_) => VERSION_OF_WINDOW,
             None => VERSION,
         };
-        let mut out = format!("{{\n  \"version\": {version}");
-        push_member(&mut out, "actors", |out| push_texts(out, &self.actors));
-        push_member(&mut out, "channels", |out| push_texts(out, &self.channels));
-        push_member(&mut out, "values", |out| {
+        let _ = write!(out, "{{\n  \"version\": {version}");
+        push_member(out, "actors", |out| push_texts(out, &self.actors));
+        push_member(out, "channels", |out| push_texts(out, &self.channels));
+        push_member(out, "values", |out| {
             push_object(out, &self.values, push_texts)
         });
-        self.push_handles(&mut out);
-        self.push_calls(&mut out);
-        self.matching.push(&mut out);
-        self.ending.push(&mut out);
-        window::push(&mut out, self.window.as_ref(), &self.times);
+        self.push_handles(out);
+        self.push_calls(out);
+        self.matching.push(out);
+        self.ending.push(out);
+        window::push(out, self.window.as_ref(), &self.times);
         if let Some(account) = &self.account {
-            push_member(&mut out, "account", |out| push_nested(out, account));
+            push_member(out, "account", |out| push_nested(out, account));
         }
         out.push_str("\n}\n");
-        out
     }
 
     fn push_handles(&self, out: &mut String) {

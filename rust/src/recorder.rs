@@ -76,7 +76,9 @@ use texts::Texts;
 ///   one number. If 64 channels are alive, the new one is not recorded.
 /// - When a channel has created 65,536 senders, weak senders and receivers and is to create another
 ///   one, its recording ends. The other channels are still recorded.
-/// - When a channel has 1,048,576 entries, recording ends for all channels of the recorder.
+/// - When a channel has 1,048,576 entries, recording ends for all channels of the recorder. That of
+///   a test ([`for_test`](Recorder::for_test)) goes on with the last calls of each channel, as a
+///   [`flight`](Recorder::flight) recorder does.
 /// - A thread or named future after the 64th is recorded under the number of the 64th. The number
 ///   of one that is gone is given to another, once no call in the run is by it.
 ///

@@ -1,5 +1,5 @@
-//! What a long run leaves in memory, by counting what is allocated. A program of its own with one
-//! test, since the allocator counts for all threads.
+//! What a long run leaves in memory, by counting what is allocated. A program of its own, since the
+//! allocator counts for all threads.
 
 #[path = "support/allocated.rs"]
 mod allocated;
@@ -7,6 +7,7 @@ mod allocated;
 use allocated::allocated;
 use std::future::Future;
 use std::pin::pin;
+use std::sync::Mutex;
 use std::task::{Context, Waker};
 use yovanelum::{Recorder, block_on, broadcast, named};
 
@@ -48,8 +49,12 @@ fn use_channel(value: u32) {
     assert_eq!(rx.try_recv(), Ok(value));
 }
 
+/// The tests run in turn.
+static TURN: Mutex<()> = Mutex::new(());
+
 #[test]
 fn names_go_with_what_they_name() {
+    let _turn = TURN.lock();
     let recorder = Recorder::new();
     let entered = recorder.enter();
     let (_tx, mut rx) = broadcast::channel::<u32>(16);
@@ -87,4 +92,25 @@ fn names_go_with_what_they_name() {
         (0..100).for_each(|_| drop(tx.subscribe()));
     });
     stays_flat("channels that nobody records", use_channel);
+}
+
+#[test]
+fn a_flight_recorder_keeps_no_more_than_its_last_calls() {
+    let _turn = TURN.lock();
+    let recorder = Recorder::flight(100);
+    let _entered = recorder.enter();
+    let (tx, mut rx) = broadcast::channel(16);
+    recorder.show(&tx, |value| format!("the value {value}"));
+    // As many as the core keeps room for handles.
+    (0..66_000).for_each(|value| assert_eq!(tx.send(value).unwrap(), 1));
+    stays_flat("sends, receives and lags", |i| {
+        (0..20).for_each(|_| drop(tx.send(i)));
+        while let Err(broadcast::error::TryRecvError::Lagged(_)) | Ok(_) = rx.try_recv() {}
+    });
+    stays_flat("named tasks", |i| {
+        let task = named(&format!("request {i}"), async { tx.send(i).unwrap() });
+        block_on(task);
+    });
+    while let Err(broadcast::error::TryRecvError::Lagged(_)) | Ok(_) = rx.try_recv() {}
+    stays_flat("calls that wait and are given up", |_| wait_once(&mut rx));
 }

@@ -194,3 +194,60 @@ fn a_handle_for_which_there_is_no_memory_is_not_created() {
     assert_eq!(tx.receiver_count(), alive.len());
     goes_on((tx, alive));
 }
+
+#[test]
+fn a_flight_recorder_that_finds_no_memory_loses_a_dump_and_no_call() {
+    let folder = std::env::temp_dir().join(format!("no-memory-{}", std::process::id()));
+    let mut requests = 0;
+    loop {
+        let recorder = Recorder::flight(1_000);
+        recorder.dump_to(&folder).when_lag(1);
+        let _entered = recorder.enter();
+        let (tx, mut rx) = broadcast::channel(4);
+        for value in 0..1_999u64 {
+            tx.send(value).unwrap();
+        }
+        // The copies of the calls, and of where they were made.
+        let refusal = Refusal {
+            least: 8 << 10,
+            ..Refusal::only(requests)
+        };
+        let (reply, refused) = refusing(refusal, || rx.try_recv());
+        assert_eq!(reply, Err(TryRecvError::Lagged(1_995)));
+        assert_eq!(rx.try_recv(), Ok(1_995));
+        if refused == 0 {
+            while recorder.dumps().written() == 0 {
+                std::thread::yield_now();
+            }
+            break;
+        }
+        assert_eq!(recorder.dumps().failed(), 1);
+        // There is memory again.
+        recorder.dump("asked for").wait().unwrap();
+        requests += 1;
+    }
+    assert!(requests >= 2, "{requests}");
+    std::fs::remove_dir_all(folder).unwrap();
+}
+
+#[test]
+fn the_last_calls_of_a_channel_go_on_where_a_chunk_finds_no_memory() {
+    let recorder = Recorder::flight(100);
+    let _entered = recorder.enter();
+    let (tx, mut rx) = broadcast::channel(4096);
+    // The copy of the ring of 4096 values is the one block of 32 KiB.
+    let ((), refused) = refusing(Refusal::above(32 << 10), || {
+        for value in 0..150u64 {
+            tx.send(value).unwrap();
+            assert_eq!(rx.try_recv(), Ok(value));
+        }
+    });
+    assert!(refused > 100, "{refused}");
+    assert_eq!(recorder.len(), 300);
+    for value in 150..350 {
+        tx.send(value).unwrap();
+        assert_eq!(rx.try_recv(), Ok(value));
+    }
+    assert!(recorder.len() <= 200);
+    assert!(recorder.journal().unwrap().ends_with(" = value 349\nend\n"));
+}

@@ -23,6 +23,7 @@ use super::machine::{MOST_HANDLES, Machine, made};
 use super::numbers::{Numbers, Place};
 use crate::backend::{Caller, OpenFault, Recording, Spec};
 use crate::reply::Reply;
+use crate::shim::Vec as CoreVec;
 use crate::source::rw_law::NoMemory;
 use std::iter;
 
@@ -86,7 +87,7 @@ impl CoreChannel {
     /// Takes the dropped handles out of the table of a channel that keeps its last calls, if they
     /// are many. These calls are no longer kept then. Returns the numbers that the others had, or
     /// `None` if nothing has changed.
-    pub(crate) fn renumber_last(&mut self) -> Option<Vec<u32>> {
+    pub(crate) fn renumber_last(&mut self) -> Option<CoreVec<u32>> {
         if !self.further.is_empty() || !self.first.has_many_dropped() {
             return None;
         }

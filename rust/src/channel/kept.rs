@@ -104,9 +104,9 @@ impl ChannelState {
     /// the last calls has ended.
     pub(crate) fn kept(&mut self, times: Times) -> Result<Option<KeptChannel>, NoMemory> {
         let noted = match &self.last_calls {
-            Some(last) => last.copy(),
+            Some(last) => last.copy()?,
             None if self.core.recorded().keeps_last() => return Ok(None),
-            None => self.noted(MOST_CHUNK, usize::MAX, times).copy(),
+            None => self.noted(MOST_CHUNK, usize::MAX, times).copy()?,
         };
         let calls = self.core.recorded().kept(MOST_CHUNK)?;
         let mut names: BTreeMap<u64, String> = noted.names.iter().cloned().collect();

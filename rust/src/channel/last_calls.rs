@@ -6,6 +6,7 @@ use super::locations::Locations;
 use super::made_handles::MadeHandles;
 use crate::backend::Actor;
 use crate::clock::{Moment, Times};
+use crate::source::rw_law::NoMemory;
 use std::collections::VecDeque;
 use std::mem;
 use std::sync::Arc;
@@ -216,21 +217,33 @@ impl LastCalls {
     }
 
     /// Returns a copy, to be read while the channel is used.
-    pub(super) fn copy(&self) -> LastCallsCopy {
+    pub(super) fn copy(&self) -> Result<LastCallsCopy, NoMemory> {
         let chunks = [&self.older, &self.newer];
         let texts = chunks.iter().flat_map(|chunk| &chunk.texts);
         let texts = texts.map(|it| (it.number, it.text.clone()));
-        LastCallsCopy {
+        let texts_before = self.retained.iter().cloned();
+        Ok(LastCallsCopy {
             count: self.count(),
-            sites: chunks.map(|chunk| &*chunk.sites).concat(),
-            waited: chunks.map(|chunk| &*chunk.waited).concat(),
-            cancelled: chunks.map(|chunk| &*chunk.cancelled).concat(),
-            texts: self.retained.iter().cloned().chain(texts).collect(),
-            names: chunks.map(|chunk| &*chunk.names).concat(),
-            handles: self.handles.clone(),
-            moments: chunks.map(|chunk| &*chunk.moments).concat(),
-        }
+            sites: joined(chunks.map(|chunk| &*chunk.sites))?,
+            waited: joined(chunks.map(|chunk| &*chunk.waited))?,
+            cancelled: joined(chunks.map(|chunk| &*chunk.cancelled))?,
+            texts: texts_before.chain(texts).collect(),
+            names: joined(chunks.map(|chunk| &*chunk.names))?,
+            handles: self.handles.copy()?,
+            moments: joined(chunks.map(|chunk| &*chunk.moments))?,
+        })
     }
+}
+
+/// Copies two lists into one.
+fn joined<T: Clone>(lists: [&[T]; 2]) -> Result<Vec<T>, NoMemory> {
+    let mut joined = Vec::new();
+    let len = lists.iter().map(|list| list.len()).sum();
+    joined.try_reserve_exact(len).map_err(|_| NoMemory)?;
+    for list in lists {
+        joined.extend_from_slice(list);
+    }
+    Ok(joined)
 }
 
 #[cfg(test)]
@@ -255,13 +268,13 @@ mod tests {
         calls.note_cancelled();
         calls.add_name(7, "gone".into());
         (0..5).for_each(|_| add(&mut calls, 6));
-        let copy = calls.copy();
+        let copy = calls.copy().unwrap();
         assert_eq!((copy.count, copy.sites.len()), (6, 6));
         assert_eq!((copy.waited, copy.cancelled), (vec![0], vec![0]));
         assert_eq!(copy.names, [(7, "gone".into())]);
         assert_eq!(calls.actors(), 1 << 5 | 1 << 6);
         add(&mut calls, 6);
-        let copy = calls.copy();
+        let copy = calls.copy().unwrap();
         assert_eq!((copy.count, copy.sites.len()), (7, 4));
         assert!(copy.waited.is_empty() && copy.cancelled.is_empty() && copy.names.is_empty());
         assert_eq!(calls.actors(), 1 << 6);
@@ -275,7 +288,7 @@ mod tests {
             // There was no receiver for each third value.
             calls.add_text(number, number.to_string(), number % 3 != 2);
         }
-        let texts = calls.copy().texts;
+        let texts = calls.copy().unwrap().texts;
         let numbers: Vec<_> = texts.iter().map(|(number, _)| *number).collect();
         assert_eq!(numbers, [1, 3, 4, 5, 6, 7]);
     }
@@ -287,7 +300,7 @@ mod tests {
             add(&mut calls, 0);
             calls.remove_last();
         }
-        let copy = calls.copy();
+        let copy = calls.copy().unwrap();
         assert_eq!(
             (copy.count, copy.sites.len(), copy.moments.len()),
             (0, 0, 0)

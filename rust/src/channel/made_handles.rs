@@ -2,9 +2,10 @@
 //! created before, by its number in the channel's table.
 
 use super::CallSite;
+use crate::source::rw_law::NoMemory;
 
 /// The handles of a table. Those that the table forgets are forgotten here too.
-#[derive(Clone, Default)]
+#[derive(Default)]
 pub(crate) struct MadeHandles {
     // By the number in the table.
     sites: Vec<CallSite>,
@@ -36,6 +37,19 @@ impl MadeHandles {
             Some(nth) => *nth,
             None => self.next + u64::from(number) - self.survivors.len() as u64,
         }
+    }
+
+    /// Returns a copy.
+    pub(super) fn copy(&self) -> Result<MadeHandles, NoMemory> {
+        let mut sites = Vec::new();
+        let reserved = sites.try_reserve_exact(self.sites.len());
+        reserved.map_err(|_| NoMemory)?;
+        sites.extend_from_slice(&self.sites);
+        Ok(MadeHandles {
+            sites,
+            survivors: self.survivors.clone(),
+            next: self.next,
+        })
     }
 
     /// Forgets the handles that aren't among these. The others get the numbers 0, 1, 2, ..

@@ -7,7 +7,7 @@ use crate::channel::NotedChannel;
 use crate::clock::{Moment, wall};
 use crate::names::{ChannelWindow, Names, WindowNames};
 use crate::wait::Wait;
-use std::collections::BTreeMap;
+use std::collections::{BTreeMap, BTreeSet};
 use std::iter;
 
 /// What the actor of leads is called.
@@ -81,7 +81,37 @@ pub(super) fn add(
         channels: of_channels.into_iter().collect(),
     });
     names.times = times(channels);
+    keep_texts_of_run(names, channels, made);
     raise(names, made);
+}
+
+/// Leaves out the texts of values that no call of the run has.
+fn keep_texts_of_run(names: &mut Names, channels: &[NotedChannel], made: &Windows) {
+    if names.values.is_empty() {
+        return;
+    }
+    // Of each channel, the values of its lead, and the least one of the calls after it, which have
+    // them in the order of their numbers.
+    let mut of_channels = vec![(BTreeSet::new(), u64::MAX); made.windows.len()];
+    for (place, entry) in made.run.entries() {
+        let (in_lead, least) = &mut of_channels[entry.channel as usize];
+        match entry.value {
+            Some(value) if place <= made.lead => drop(in_lead.insert(value)),
+            Some(value) => *least = value.min(*least),
+            None => {}
+        }
+    }
+    for (number, channel) in (0..).zip(channels) {
+        let (in_lead, least) = &mut of_channels[number as usize];
+        // A lead sends this value in place of those that nobody knows any more.
+        if !channel.is_watch && made.windows[number as usize].sent > channel.capacity {
+            in_lead.remove(&0);
+        }
+        if let Some(texts) = names.values.get_mut(&number) {
+            texts.retain(|value, _| value >= least || in_lead.contains(value));
+        }
+    }
+    names.values.retain(|_, texts| !texts.is_empty());
 }
 
 /// Returns the number in the channel's table of each handle of the journal that isn't only in the

@@ -6,6 +6,7 @@ use crate::backend::Recording;
 use crate::channel::machine::Machine;
 use crate::channel::numbers::Place;
 use crate::reply::Reply;
+use crate::shim::Vec as CoreVec;
 use std::{iter, mem};
 
 impl CoreChannel {
@@ -62,7 +63,7 @@ impl CoreChannel {
     /// Takes the dropped handles out of a machine. The others have the numbers 0, 1, 2, .. there
     /// from then on, in the order of those that they had. Returns these, or `None` if there was no
     /// memory for it, and nothing has changed.
-    pub(super) fn renumber(&mut self, number: usize) -> Option<Vec<u32>> {
+    pub(super) fn renumber(&mut self, number: usize) -> Option<CoreVec<u32>> {
         if !self.reserve_numbers() {
             return None;
         }
@@ -82,7 +83,7 @@ impl CoreChannel {
             self.numbers.be_of_machine(alive, made);
             self.first.end_numbers();
         }
-        Some(before.iter().copied().collect())
+        Some(before)
     }
 
     /// Whether a machine can make a further handle, once its dropped ones are taken out if they are

@@ -6,8 +6,13 @@ use super::super::test_run::PATIENCE;
 use super::super::windows::Most;
 use super::files;
 use super::request::DumpRequest;
+use std::collections::TryReserveError;
 use std::io;
 use std::path::PathBuf;
+
+fn no_memory(_: TryReserveError) -> io::Error {
+    io::Error::other("no memory for the names")
+}
 
 /// Writes a dump, and returns the path of its journal.
 pub(super) fn write(request: &mut DumpRequest) -> io::Result<PathBuf> {
@@ -34,7 +39,11 @@ pub(super) fn write(request: &mut DumpRequest) -> io::Result<PathBuf> {
     names.fit_to(&run, &journal);
     names.add_sources();
     let name = files::name(request.why.at);
-    let path = files::write(&request.folder.join(name), &journal, &names.to_json())?;
+    let mut json = String::new();
+    // What the names have of a call is shorter than what the journal has.
+    json.try_reserve(journal.len()).map_err(no_memory)?;
+    names.push_json(&mut json);
+    let path = files::write(&request.folder.join(name), &journal, &json)?;
     files::keep(&request.folder, request.keep);
     Ok(path)
 }

@@ -1,0 +1,153 @@
+//! A service outside of this package, with a flight recorder: what its dumps say by the programs
+//! that a user has, and what it does where it gets no thread.
+// It is built without optimization in either build of this test, so one of the two runs it.
+#![cfg(all(unix, debug_assertions))]
+
+mod support;
+
+use std::fs;
+use std::path::{Path, PathBuf};
+use std::process::{Command, Output};
+use support::named::member;
+use support::workspace::{Workspace, in_turn, printed};
+
+const SERVICE: &str = r#"
+use std::{env, thread};
+use yovanelum::{Recorder, broadcast};
+
+/// Sends orders. The audit falls behind before the last hundred.
+fn serve(recorder: &Recorder) -> broadcast::error::TryRecvError {
+    let (orders, mut mailer) = broadcast::channel(16);
+    let mut audit = orders.subscribe();
+    recorder.name(&orders, "orders").name(&mailer, "mailer").name(&audit, "audit");
+    recorder.show(&orders, |order: &u64| format!("order {order}"));
+    for order in 0..100_000 {
+        orders.send(order).unwrap();
+        mailer.try_recv().unwrap();
+        if order < 99_900 {
+            audit.try_recv().unwrap();
+        }
+    }
+    audit.try_recv().unwrap_err()
+}
+
+fn main() {
+    let words: Vec<String> = env::args().collect();
+    let recorder = Recorder::flight(1_000);
+    recorder.dump_to(&words[1]).when_lag(50).on_panic();
+    let _installed = recorder.install();
+    let reply = match &*words[2] {
+        "thread" => {
+            let of_service = recorder.clone();
+            let service = thread::Builder::new().name("shop".into());
+            service.spawn(move || serve(&of_service)).unwrap().join().unwrap()
+        }
+        "main" => serve(&recorder),
+        _ => {
+            let (_orders, _mailer) = broadcast::channel::<u64>(16);
+            panic!("the till is open");
+        }
+    };
+    println!("{reply:?}");
+    while recorder.dumps().written() + recorder.dumps().failed() == 0 {
+        thread::yield_now();
+    }
+    println!("{:?}", recorder.dumps());
+}
+"#;
+
+/// Returns the service's package, and an empty folder for its dumps.
+fn workspace() -> (Workspace, PathBuf) {
+    let manifest = "[package]\nname = \"shop\"\nversion = \"0.0.0\"\nedition = \"2021\"\n\n[dependencies]\nCRATE\n\n[profile.dev]\ndebug = false\nincremental = false\n\n[workspace]\n";
+    let files = [("Cargo.toml", manifest), ("src/main.rs", SERVICE)];
+    let workspace = Workspace::new("service", &files);
+    let dumps = workspace.0.join("dumps");
+    let _ = fs::remove_dir_all(&dumps);
+    (workspace, dumps)
+}
+
+/// Runs the service with these words, and what the shell is to set.
+fn run(workspace: &Workspace, set: &str, how: &str) -> Output {
+    let line = format!("cargo build -q && {set} target/debug/shop dumps {how}");
+    workspace
+        .shell(&line)
+        .env("CARGO_TARGET_DIR", "target")
+        .output()
+        .unwrap()
+}
+
+/// Returns the journal of the only dump of this folder.
+fn journal(dumps: &Path) -> PathBuf {
+    let files = fs::read_dir(dumps)
+        .unwrap()
+        .map(|file| file.unwrap().path());
+    let mut journals = files.filter(|path| path.extension().is_some_and(|it| it == "journal"));
+    let journal = journals.next().expect("a dump");
+    assert_eq!(journals.next(), None);
+    journal
+}
+
+fn said(program: &str, words: &[&str], file: &Path) -> String {
+    let run = Command::new(program)
+        .args(words)
+        .arg(file)
+        .output()
+        .unwrap();
+    assert!(run.status.success(), "{}", printed(&run));
+    printed(&run)
+}
+
+#[test]
+fn a_lag_leaves_a_dump_that_says_who_lagged_and_where() {
+    let _turn = in_turn();
+    let (workspace, dumps) = workspace();
+    let run = run(&workspace, "", "thread");
+    let out = String::from_utf8(run.stdout.clone()).unwrap();
+    let wanted = "Lagged(84)\nDumps { written: 1, failed: 0, left_out: 0 }\n";
+    assert_eq!(out, wanted, "{}", printed(&run));
+    let journal = journal(&dumps);
+    let checked = said(env!("CARGO_BIN_EXE_ttd"), &["check"], &journal);
+    let entries: u64 = checked.trim().strip_prefix("ok ").unwrap().parse().unwrap();
+    assert!((1_000..2_100).contains(&entries), "{entries}");
+    let why = said(env!("CARGO_BIN_EXE_yovanelum"), &["why"], &journal);
+    assert!(why.contains("`audit` lost 84 of "), "{why}");
+    assert!(
+        why.contains("told: lagged 84") && why.contains("src/main.rs:"),
+        "{why}"
+    );
+    assert!(why.contains("orders.send(\"order 99916\")"), "{why}");
+    let names = fs::read_to_string(journal.with_extension("names")).unwrap();
+    let window = member(&names, "window");
+    let reason = "\"reason\": \"`audit` lost 84 values of `orders`\"";
+    assert!(window.contains(reason), "{window}");
+    let look = said(env!("CARGO_BIN_EXE_yovanelum"), &["open"], &journal);
+    assert!(journal.with_extension("html").exists(), "{look}");
+}
+
+#[test]
+fn a_service_that_gets_no_thread_says_so_and_goes_on() {
+    let _turn = in_turn();
+    let (workspace, dumps) = workspace();
+    // No system has so much memory for a stack.
+    let run = run(&workspace, "RUST_MIN_STACK=4611686018427387904", "main");
+    let out = String::from_utf8(run.stdout.clone()).unwrap();
+    let wanted = "Lagged(84)\nDumps { written: 0, failed: 1, left_out: 0 }\n";
+    assert_eq!(out, wanted, "{}", printed(&run));
+    let said = "yovanelum: a dump isn't written: no thread for it: ";
+    assert_eq!(printed(&run).matches(said).count(), 1, "{}", printed(&run));
+    assert!(!dumps.exists());
+}
+
+#[test]
+fn a_process_that_ends_with_a_panic_waits_for_its_dump() {
+    let _turn = in_turn();
+    let (workspace, dumps) = workspace();
+    let run = run(&workspace, "", "panic");
+    assert_eq!(run.status.code(), Some(101), "{}", printed(&run));
+    let names = fs::read_to_string(journal(&dumps).with_extension("names")).unwrap();
+    let window = member(&names, "window");
+    assert!(
+        window.contains("\"reason\": \"main panicked at src/main.rs:"),
+        "{window}"
+    );
+}
