@@ -162,9 +162,10 @@ fn a_panic_of_a_thread_leaves_a_dump() {
     );
     let panics = member(&names, "panics");
     assert!(
-        panics.starts_with("[{\"text\": \"no stamps\", \"location\": 0, \"actor\": 1"),
+        panics.starts_with("[{\"text\": \"no stamps\", "),
         "{panics}"
     );
+    assert!(panics.contains("\"actor\": 0"), "{panics}");
 }
 
 #[test]
