@@ -197,6 +197,7 @@ struct Recorded {
     bytes: u64,
 }
 
+#[inline(never)]
 fn recorded(calls: u64, case: fn(u64) -> Timed) -> Recorded {
     let recorder = Recorder::new();
     let entered = recorder.enter();
@@ -217,6 +218,7 @@ fn recorded(calls: u64, case: fn(u64) -> Timed) -> Recorded {
 }
 
 /// Nanoseconds a call of a run of a case whose channels each keep their last calls.
+#[inline(never)]
 fn flight(calls: u64, case: fn(u64) -> Timed) -> f64 {
     let recorder = Recorder::flight(10_000);
     let _entered = recorder.enter();
@@ -224,6 +226,7 @@ fn flight(calls: u64, case: fn(u64) -> Timed) -> f64 {
 }
 
 /// Nanoseconds a call of a run of a case whose channels belong to no recorder.
+#[inline(never)]
 fn unset(calls: u64, case: fn(u64) -> Timed) -> f64 {
     let (calls, took) = case(calls);
     took.as_nanos() as f64 / calls as f64

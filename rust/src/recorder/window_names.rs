@@ -245,7 +245,7 @@ impl Adding<'_> {
         ChannelWindow {
             lead: self.window.lead(),
             calls: self.channel.before(self.made.calls),
-            sent: (!self.channel.is_watch).then(|| self.made.sent),
+            sent: (!self.channel.is_watch).then_some(self.made.sent),
             handles: real
                 .map(|real| real.map(|real| handles.nth(real)))
                 .collect(),
