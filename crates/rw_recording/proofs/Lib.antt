@@ -5,3 +5,7 @@ pub mod Dozed
 pub mod Making
 pub mod Renumbered
 pub mod Tracking
+pub mod Asking
+pub mod Entries
+pub mod Retaken
+pub mod Alike

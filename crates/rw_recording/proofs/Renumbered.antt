@@ -21,7 +21,7 @@ use Rattle.rw_world.specs.Renaming.{renamed_call, renamed_reply}
 
 -- ---- a call has one handle, and can have any
 
-record HasOneHandle (c : ChanCall ℕ) : Type 0 where
+pub record HasOneHandle (c : ChanCall ℕ) : Type 0 where
   pub read : (h : ℕ) → handle_of (with_handle c h) ≡ h
   pub again : (g h : ℕ) → with_handle (with_handle c g) h ≡ with_handle c h
   pub own : with_handle c (handle_of c) ≡ c

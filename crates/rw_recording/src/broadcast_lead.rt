@@ -27,7 +27,7 @@ impl Standing {
 }
 
 /// Returns the live receivers, by their positions.
-fn standing(alloc: Global, goal: &Broadcast<u64>) -> Result<Vec<Standing>, NoMemory>
+fn receivers_of(alloc: Global, goal: &Broadcast<u64>) -> Result<Vec<Standing>, NoMemory>
 {
     let mut receivers = Vec::new(alloc);
     for handle in 0..goal.made() {
@@ -132,7 +132,7 @@ pub(crate) fn lead_broadcast(
 ) -> Result<(), WindowFault>
     ensures { leading.new ≡ leading.old }
 {
-    let receivers = standing(alloc, goal)?;
+    let receivers = receivers_of(alloc, goal)?;
     let first = first_position(goal, &receivers);
     if goal.sent().saturating_sub(first) > MOST_ENTRIES as u64 {
         return Err(WindowFault::TooLong);

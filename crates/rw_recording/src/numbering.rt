@@ -91,24 +91,11 @@ impl Numbering {
         ensures none { IfNone result (IfSome (number_of self.now handle) (λ number. 2 ^ 32 ≤ number)) }
     {
         let Some(place) = self.places.get(handle as usize) else {
-            let later = u64::from(handle) - self.places.len() as u64;
-            return fitting(u64::from(self.made) + later);
+            return self.made.checked_add(handle - self.places.len() as u32);
         };
         match self.before.get(*place as usize) {
             Some(own) if *own == handle => self.after.get(*place as usize).copied(),
             _ => None,
         }
-    }
-}
-
-/// Returns the number, if it is below 2^32.
-fn fitting(number: u64) -> Option<u32>
-    ensures some { IfSome result (λ same. number ≡ same) }
-    ensures none { IfNone result (2 ^ 32 ≤ number) }
-{
-    if number < 4_294_967_296 {
-        Some(number as u32)
-    } else {
-        None
     }
 }
