@@ -9,3 +9,8 @@ pub mod Asking
 pub mod Entries
 pub mod Retaken
 pub mod Alike
+pub mod Skipping
+pub mod Dozers
+pub mod Numbered
+pub mod Played
+pub mod Stamps
