@@ -1,5 +1,5 @@
 -- Several receivers that lag and aren't asked.
-use Rattle.std.proofs.Common.{◌≡◌, ℕ, zero, suc, List, [], ◌∷◌, ◌++◌, length, refl, ap, sym, ◌∙◌}
+use Rattle.std.proofs.Common.{◌≡◌, ℕ, zero, suc, List, [], ◌∷◌, ◌++◌, refl, ap, sym, ◌∙◌}
 use Rattle.std.specs.Prelude.{All}
 use Rattle.std.proofs.lemmas.List.Elements.{All-nil, All-head, All-tail}
 use Rattle.rw_broadcast.specs.declared.calls.BCall.{BCall}
@@ -46,7 +46,7 @@ step_dozing (h ∷ hs) c x quiet =
     let rest = step_dozing hs c (dozing h x) (All-tail (λ h. LeavesAlone h c) h hs quiet) in (
       rest.0 ∙ one.0,
       all_doze h hs (next (all_dozing hs (dozing h x)) c)
-      ∙ (ap (dozing h) rest.1 ∙ (sym (all_doze h hs (next (dozing h x) c)) ∙ ap (all_dozing hs) one.1)),
+          ∙ (ap (dozing h) rest.1 ∙ (sym (all_doze h hs (next (dozing h x) c)) ∙ ap (all_dozing hs) one.1)),
     )
 
 -- channels that differ by how far they lag alone

@@ -1,5 +1,5 @@
 -- How many handles a call makes.
-use Rattle.std.proofs.Common.{◌≡◌, ℕ, ◌+◌, ◌≤◌, Bool, true, false, cond, length, arith, length-set}
+use Rattle.std.proofs.Common.{ℕ, ◌+◌, ◌≤◌, Bool, true, false, cond, length, arith, length-set}
 use Rattle.std.specs.Prelude.{Option, Some, None, nat_le, nat_lt, ◌&&◌, ◌==◌}
 use Rattle.std.proofs.lemmas.List.{length_push}
 use Rattle.rw_handles.specs.declared.kinds.Kind.{Kind}

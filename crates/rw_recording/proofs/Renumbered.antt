@@ -1,23 +1,19 @@
 -- Calls by other numbers of handles, and their replies.
 use Rattle.std.proofs.Common.{◌≡◌, ℕ, refl, ap}
-use Rattle.rw_broadcast.specs.declared.calls.BCall.{BCall}
 use Rattle.rw_broadcast.specs.declared.calls.BCall.TheVariants as b
 use Rattle.rw_broadcast.specs.declared.calls.BReply.{BReply}
 use Rattle.rw_broadcast.specs.declared.calls.BReply.TheVariants as br
-use Rattle.rw_broadcast.specs.Channel as broadcast
 use Rattle.rw_broadcast.specs.Renaming as broadcast_renaming
-use Rattle.rw_watch.specs.declared.calls.WCall.{WCall}
 use Rattle.rw_watch.specs.declared.calls.WCall.TheVariants as w
 use Rattle.rw_watch.specs.declared.calls.WReply.{WReply}
 use Rattle.rw_watch.specs.declared.calls.WReply.TheVariants as wr
-use Rattle.rw_watch.specs.Channel as watch
 use Rattle.rw_watch.specs.Renaming as watch_renaming
 use Rattle.rw_world.specs.declared.channels.ChanCall.{ChanCall}
 use Rattle.rw_world.specs.declared.channels.ChanCall.TheVariants as call
 use Rattle.rw_world.specs.declared.channels.ChanReply.{ChanReply}
 use Rattle.rw_world.specs.declared.channels.ChanReply.TheVariants as reply
 use Rattle.rw_world.specs.Channel.{handle_of, makes, with_handle}
-use Rattle.rw_world.specs.Renaming.{renamed_call, renamed_reply}
+use Rattle.rw_world.specs.Renaming.{renamed_reply}
 
 -- ---- a call has one handle, and can have any
 
