@@ -1,7 +1,8 @@
 -- What was found in a run: its losses, totals and closings.
-use Rattle.std.specs.Prelude.{◌≡◌, ⊤, ℕ, List, length, Result, Ok, Err}
+use Rattle.std.specs.Prelude.{◌≡◌, ◌⊎◌, ℕ, List, length, Result, Ok, Err}
 use Rattle.rw_law.specs.Numbers.{numbers}
 use Rattle.rw_journal.specs.Run.{Run}
+use Rattle.rw_text.specs.Memory.{AsksMemory}
 use Rattle.rw_text.specs.Reading.{reading_of}
 use Rattle.rw_text.specs.declared.faults.TextFault.{TextFault}
 use Rattle.rw_text.specs.declared.faults.TextFault.TheVariants.{NoMemory}
@@ -28,8 +29,13 @@ pub record AreFindings (run : Run ℕ) (f : Findings) : Type 0 where
   pub totals : AreTotals run f.totals
   pub closings : AreClosings run f.closings f.late
 
--- what is found in a text: the findings of the run that is read, or the fault for which nothing is read
+-- a run is read from the text
+abbrev pub IsRead : List ℕ → Type 0
+IsRead bytes = (run : Run ℕ) × (reading_of numbers bytes ≡ Ok run)
+
+-- What is found in a text: the findings of the run that is read, or the fault for which nothing is read. Memory is refused where the
+-- reader asks for it, or once the run is read.
 abbrev pub IsFoundIn : List ℕ → Result Findings TextFault → Type 0
 IsFoundIn bytes (Ok f) = (run : Run ℕ) × (reading_of numbers bytes ≡ Ok run) × AreFindings run f
-IsFoundIn bytes (Err NoMemory) = ⊤
+IsFoundIn bytes (Err NoMemory) = AsksMemory numbers bytes ⊎ IsRead bytes
 IsFoundIn bytes (Err fault) = reading_of numbers bytes ≡ Err fault
