@@ -37,3 +37,4 @@ pub mod LagSteps
 pub mod LossLaws
 pub mod ReceiptSteps
 pub mod StartSteps
+pub mod ValueCounts

@@ -56,7 +56,7 @@ module _ (at : ℕ → ℕ) (last : ℕ) (rises : (p : ℕ) → p < last → at 
       let e : p + n + 1 ≡ p + suc n = omega arith in
       subst (λ q. at p ≤ at q) e (omega (arith, before, next))
 
-  rises_to : (p q : ℕ) → p ≤ q → q ≤ last → at p ≤ at q
+  pub rises_to : (p q : ℕ) → p ≤ q → q ≤ last → at p ≤ at q
   rises_to p q below within = let e : p + (q - p) ≡ q = omega (arith, below) in subst (λ r. at p ≤ at r) e (rises_by p (q - p) (omega (arith, below, within)))
 
   -- the first place at which it is above a number
@@ -219,7 +219,7 @@ module _ {V : Type 0} where
 
     -- ---- values
 
-    comes_there : (p : ℕ) → p < last_place run → (count_at run c p ≤ count_at run c (p + 1)) × (oldest_at run c p ≤ oldest_at run c (p + 1))
+    pub comes_there : (p : ℕ) → p < last_place run → (count_at run c p ≤ count_at run c (p + 1)) × (oldest_at run c p ≤ oldest_at run c (p + 1))
     comes_there p within = by_channel (slice_get (shown_at run p) c) refl where
       by_step : (x y : ChanShown V) → slice_get (shown_at run p) c ≡ Some x → slice_get (shown_at run (p + 1)) c ≡ Some y → Comes x y
           → (count_at run c p ≤ count_at run c (p + 1)) × (oldest_at run c p ≤ oldest_at run c (p + 1))

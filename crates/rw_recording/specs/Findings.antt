@@ -8,17 +8,21 @@ use Rattle.rw_text.specs.declared.faults.TextFault.{TextFault}
 use Rattle.rw_text.specs.declared.faults.TextFault.TheVariants.{NoMemory}
 use Rattle.rw_findings.specs.Closings.{AreClosings}
 use Rattle.rw_findings.specs.Losses.{AreLosses}
+use Rattle.rw_findings.specs.Receivers.{AreLastReceipts, AreStarts}
 use Rattle.rw_findings.specs.Totals.{AreTotals}
 use Rattle.rw_findings.specs.declared.closings.closing.Closing.{Closing}
 use Rattle.rw_findings.specs.declared.closings.closing.LateReader.{LateReader}
 use Rattle.rw_findings.specs.declared.losses.loss.Loss.{Loss}
+use Rattle.rw_findings.specs.declared.starts.start.LossStart.{LossStart}
 use Rattle.rw_findings.specs.declared.totals.total.Totals.{Totals}
 
 -- how many entries the run has, and what was found
 pub record Findings : Type 0 where
   pub entries : ℕ
   pub losses : List Loss
+  pub starts : List LossStart
   pub totals : List Totals
+  pub receipts : List ℕ
   pub closings : List Closing
   pub late : List LateReader
 
@@ -26,7 +30,9 @@ pub record Findings : Type 0 where
 pub record AreFindings (run : Run ℕ) (f : Findings) : Type 0 where
   pub entries : f.entries ≡ length run.entries
   pub losses : AreLosses run f.losses
+  pub starts : AreStarts run f.losses f.starts
   pub totals : AreTotals run f.totals
+  pub receipts : AreLastReceipts run f.totals f.receipts
   pub closings : AreClosings run f.closings f.late
 
 -- a run is read from the text
