@@ -30,7 +30,8 @@ loop-loss-init g c =
     }
 
 pub follow_to-requires-clause-on : goal.follow_to-requires-clause-on
-follow_to-requires-clause-on g c = later_from c.args.losses.now c.loop-loss.loss-index c.loop-loss.place no_loss c.loop-loss-test.true c.loop-loss.invariant.later
+follow_to-requires-clause-on g c =
+    later_from c.args.losses.now c.loop-loss.loss-index c.loop-loss.place no_loss c.loop-loss-test.true c.loop-loss.invariant.later
 
 pub loop-loss-preserved : goal.loop-loss-preserved
 loop-loss-preserved g c =
