@@ -19,6 +19,7 @@ mod rest;
 mod saying;
 #[cfg(test)]
 mod tests;
+mod traffic;
 mod unknown;
 pub(crate) mod visible;
 mod waits;
@@ -35,6 +36,7 @@ use failure::{Failure, FailureAt};
 use finding::Finding;
 use history::History;
 use naming::Naming;
+use traffic::Traffic;
 
 /// How many facts a report tells in full. The others are counted.
 pub(crate) const MOST_TOLD: usize = 3;
@@ -50,6 +52,7 @@ struct Context<'a> {
     naming: &'a Naming<'a>,
     failure: &'a Failure,
     findings: &'a Findings,
+    traffic: &'a Traffic,
 }
 
 impl Context<'_> {
@@ -145,17 +148,17 @@ impl Account {
     ///
     /// Returns `NoMemory` if there is none for what is found.
     pub(crate) fn on(run: &Run, names: &Names) -> Result<Account, TextFault> {
-        Ok(Account::of(run, names, &run.findings()?))
+        let history = History::of(run, names);
+        Account::with(run, names, &run.findings()?, &history)
     }
 
-    /// Makes the account of a run of which this was found.
-    fn of(run: &Run, names: &Names, findings: &Findings) -> Account {
-        let history = History::of(run, findings.losses(), names);
-        Account::with(run, names, findings, &history)
-    }
-
-    /// The same, of a run of which the history is known too.
-    fn with(run: &Run, names: &Names, findings: &Findings, history: &History) -> Account {
+    /// Makes the account of a run of which this was found, and the history is known.
+    fn with(
+        run: &Run,
+        names: &Names,
+        findings: &Findings,
+        history: &History,
+    ) -> Result<Account, TextFault> {
         let context = Context {
             run,
             names,
@@ -163,13 +166,14 @@ impl Account {
             naming: &Naming::new(names, history),
             failure: &Failure::of(run, names, history),
             findings,
+            traffic: &Traffic::of(run, findings)?,
         };
         let found = Finding::all(&context);
         let unknown = unknown::lines(&context);
         let worded = found.iter().take(MOST_FACTS);
         let facts: Vec<_> = worded.map(|finding| finding.fact(&context)).collect();
         let failure = context.failure.end().map(|end| end.place);
-        Account {
+        Ok(Account {
             calls: run.len(),
             channels: run.specs().len() as u64,
             nothing: nothing(&context, &unknown, &facts),
@@ -184,7 +188,7 @@ impl Account {
             waiting: waits::all(&context),
             losses: findings.losses().to_vec(),
             root: names.ending.root.clone(),
-        }
+        })
     }
 }
 

@@ -1,9 +1,9 @@
-//! What happened to the handles of a run, and which actors used them. It passes over the entries
+//! Which handles of a run are receivers, and which actors used them. It passes over the entries
 //! once.
 
 use crate::names::Names;
 use crate::reply::Reply;
-use crate::run::{Loss, Run, RunEntry, Spec};
+use crate::run::{Run, RunEntry};
 use crate::word::Word;
 
 /// The calls by which a receiver is told something.
@@ -20,33 +20,17 @@ const RECEIVES: [Word; 7] = [
 /// The calls by which a receiver of a watch asks for a new version.
 const AWAITS: [Word; 3] = [Word::Changed, Word::HasChanged, Word::WaitFor];
 
-/// A send of a broadcast that reached a receiver, or a change of a watch.
-#[derive(Clone, Copy)]
-pub(super) struct SentValue {
-    pub(super) place: u64,
-    pub(super) value: u64,
-}
-
 /// A handle of a channel.
 pub(super) struct HandleHistory {
     is_receiver: bool,
-    // How many values had been sent on the channel when it was made, and when it was dropped.
-    sent_before: usize,
-    sent_until: Option<usize>,
     /// The actor that received by it last.
     pub(super) last_user: Option<u32>,
-    /// The place of the last call that returned a value to it, or 0.
-    pub(super) last_value: u64,
     /// Whether it asked for a new version of a watch.
     pub(super) awaits: bool,
 }
 
 /// What happened on a channel.
 pub(super) struct ChannelHistory {
-    /// How many values a broadcast retains.
-    pub(super) retained: usize,
-    /// The sends of a broadcast that reached a receiver, or the changes of a watch.
-    pub(super) sends: Vec<SentValue>,
     handles: Vec<HandleHistory>,
 }
 
@@ -70,19 +54,15 @@ pub(super) struct History {
     actors: Vec<ActorHistory>,
     // For the entry of each place, how many entries of the same channel are before it.
     indexes: Vec<u32>,
-    // Of each loss the place at which its receiver received last before it, or 0.
-    received: Vec<u64>,
 }
 
 impl History {
-    /// Passes over the entries of a run, of which these are the losses in the order in which they
-    /// begin. The names say which calls are those of `wait_for`.
-    pub(super) fn of(run: &Run, losses: &[Loss], names: &Names) -> History {
+    /// Passes over the entries of a run. The names say which calls are those of `wait_for`.
+    pub(super) fn of(run: &Run, names: &Names) -> History {
         let mut history = History {
-            channels: run.specs().iter().map(ChannelHistory::of).collect(),
+            channels: run.specs().iter().map(|_| ChannelHistory::new()).collect(),
             actors: vec![],
             indexes: Vec::with_capacity(run.len() as usize),
-            received: Vec::with_capacity(losses.len()),
         };
         let mut counts = vec![0; run.specs().len()];
         for (place, mut entry) in run.entries() {
@@ -93,14 +73,13 @@ impl History {
             history.indexes.push(*count);
             *count += 1;
             history.note(place, &entry);
-            history.begin_losses(place, losses);
         }
         history
     }
 
     fn note(&mut self, place: u64, entry: &RunEntry) {
         let channel = &mut self.channels[entry.channel as usize];
-        channel.note(place, entry);
+        channel.note(entry);
         let receives = channel.is_receive(entry);
         let sends = channel.is_sender(entry.handle) && entry.word != Word::Drop;
         let number = entry.actor as usize;
@@ -108,18 +87,6 @@ impl History {
             self.actors.resize(number + 1, ActorHistory::default());
         }
         self.actors[number].note(place, entry, receives, sends);
-    }
-
-    /// Notes where the receivers received last whose losses begin at this place.
-    fn begin_losses(&mut self, place: u64, losses: &[Loss]) {
-        while let Some(loss) = losses.get(self.received.len()) {
-            if loss.from > place {
-                return;
-            }
-            let receiver = self.channel(loss.channel).handle(loss.receiver);
-            let received = receiver.map_or(0, |receiver| receiver.last_value);
-            self.received.push(received);
-        }
     }
 
     pub(super) fn channel(&self, channel: u32) -> &ChannelHistory {
@@ -137,12 +104,6 @@ impl History {
             .iter()
             .max()
             .map_or(0, |most| u64::from(*most) + 1)
-    }
-
-    /// The place of a receiver's last receive before its loss, or 0. The loss is the one of this
-    /// index.
-    pub(super) fn received_before(&self, loss: usize) -> u64 {
-        self.received[loss]
     }
 
     /// The place of the last call of an actor that isn't a drop, or 0.
@@ -190,57 +151,35 @@ impl ActorHistory {
 }
 
 impl HandleHistory {
-    fn new(is_receiver: bool, sent_before: usize) -> HandleHistory {
+    fn new(is_receiver: bool) -> HandleHistory {
         HandleHistory {
             is_receiver,
-            sent_before,
-            sent_until: None,
             last_user: None,
-            last_value: 0,
             awaits: false,
         }
     }
 }
 
 impl ChannelHistory {
-    fn of(spec: &Spec<u64>) -> ChannelHistory {
+    fn new() -> ChannelHistory {
         ChannelHistory {
-            retained: match spec {
-                Spec::Broadcast(capacity) => capacity.next_power_of_two() as usize,
-                Spec::Watch(_) => 0,
-            },
-            sends: vec![],
-            handles: vec![HandleHistory::new(false, 0), HandleHistory::new(true, 0)],
+            handles: vec![HandleHistory::new(false), HandleHistory::new(true)],
         }
     }
 
-    fn note(&mut self, place: u64, entry: &RunEntry) {
-        let sent = self.sends.len();
-        match (entry.reply, entry.value) {
-            // The replies to the sends of a broadcast, and to the calls that change a watch and
-            // notify its receivers.
-            (Reply::Sent(_) | Reply::Stored | Reply::Old(_) | Reply::Told(1), Some(value)) => {
-                self.sends.push(SentValue { place, value });
-            }
-            (Reply::New(_), _) => {
-                let is_receiver = matches!(
-                    entry.word,
-                    Word::Subscribe | Word::Resubscribe | Word::CloneReceiver
-                );
-                self.handles.push(HandleHistory::new(is_receiver, sent));
-            }
-            _ => {}
+    fn note(&mut self, entry: &RunEntry) {
+        if let Reply::New(_) = entry.reply {
+            let is_receiver = matches!(
+                entry.word,
+                Word::Subscribe | Word::Resubscribe | Word::CloneReceiver
+            );
+            self.handles.push(HandleHistory::new(is_receiver));
         }
         let is_receive = self.is_receive(entry);
         if let Some(handle) = self.handles.get_mut(entry.handle as usize) {
             if is_receive {
                 handle.last_user = Some(entry.actor);
                 handle.awaits |= AWAITS.contains(&entry.word);
-            }
-            match entry.reply {
-                Reply::Value(_) => handle.last_value = place,
-                Reply::Dropped => handle.sent_until = Some(sent),
-                _ => {}
             }
         }
     }
@@ -258,28 +197,5 @@ impl ChannelHistory {
     fn is_sender(&self, handle: u32) -> bool {
         self.handle(handle)
             .is_some_and(|handle| !handle.is_receiver)
-    }
-
-    /// How many values were sent while a handle was alive.
-    pub(super) fn sent_to(&self, handle: u32) -> u64 {
-        self.handle(handle).map_or(0, |handle| {
-            let until = handle.sent_until.unwrap_or(self.sends.len());
-            (until - handle.sent_before) as u64
-        })
-    }
-
-    /// Returns the last change of a watch that came while a handle was alive.
-    pub(super) fn last_sent_to(&self, handle: u32) -> Option<&SentValue> {
-        let until = self.handle(handle)?.sent_until;
-        self.sends[..until.unwrap_or(self.sends.len())].last()
-    }
-
-    /// Returns the sends of the values that were lost, if a send at this place overwrote the first
-    /// of them.
-    pub(super) fn lost(&self, from: u64, count: u64) -> &[SentValue] {
-        let first = self.sends.partition_point(|send| send.place < from);
-        let first = first.saturating_sub(self.retained);
-        let last = (first + count as usize).min(self.sends.len());
-        &self.sends[first..last]
     }
 }

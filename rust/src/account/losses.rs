@@ -3,11 +3,10 @@
 
 use super::fact::{Fact, FactStep, Role};
 use super::failure::FailureAt;
-use super::history::SentValue;
 use super::naming::Called;
 use super::{Context, visible};
 use crate::names::Json;
-use crate::run::{Loss, LossEnd, Spec};
+use crate::run::{ChannelValue, Loss, LossEnd, Spec};
 use std::cmp::Reverse;
 use std::collections::{BTreeMap, BTreeSet};
 
@@ -135,12 +134,12 @@ impl Lost {
 
 /// Puts the losses of a receiver into words.
 pub(super) fn fact(context: &Context<'_>, lost: &Lost) -> Fact {
-    let Context {
-        history, naming, ..
-    } = context;
+    let naming = context.naming;
     let loss = &lost.told;
     let receiver = naming.receiver(loss.channel, loss.receiver);
-    let values = history.channel(loss.channel).lost(loss.from, loss.lost);
+    let first = context.findings.starts()[lost.index].first;
+    let traffic = context.traffic.channel(loss.channel);
+    let values = traffic.values_from(first, loss.lost);
     let end = ToldEnd::of(context, loss);
     Fact {
         order: lost.rank.order(),
@@ -167,7 +166,7 @@ fn members(
     end: ToldEnd,
 ) -> Vec<(&'static str, Json)> {
     let loss = &lost.told;
-    let sent = context.history.channel(loss.channel).sent_to(loss.receiver);
+    let sent = context.traffic.channel(loss.channel).came_to(loss.receiver);
     vec![
         ("channel", Json::number(loss.channel)),
         ("receiver", Json::number(loss.receiver)),
@@ -186,7 +185,7 @@ fn headline(context: &Context<'_>, lost: &Lost, receiver: &Called) -> String {
         lost: most,
         ..
     } = lost.told;
-    let sent = context.history.channel(channel).sent_to(number);
+    let sent = context.traffic.channel(channel).came_to(number);
     let which = match lost.rank {
         Rank::ToldLast(_) => "the one told before the failure",
         Rank::Told(..) => "the one told last",
@@ -218,7 +217,12 @@ fn capacity(context: &Context<'_>, channel: u32) -> String {
 }
 
 /// Returns the send that overwrote the first value.
-fn cause(context: &Context<'_>, loss: &Loss, values: &[SentValue], receiver: &Called) -> FactStep {
+fn cause(
+    context: &Context<'_>,
+    loss: &Loss,
+    values: &[ChannelValue<u64>],
+    receiver: &Called,
+) -> FactStep {
     let naming = context.naming;
     let entry = context.run.entry(loss.from);
     let sent = naming.value(loss.channel, entry.value.unwrap_or(0));
@@ -254,7 +258,7 @@ fn end_step(context: &Context<'_>, lost: &Lost, end: ToldEnd) -> FactStep {
 
 /// Says which value the receiver received last. It receives none while it lags.
 fn last_receive(context: &Context<'_>, lost: &Lost) -> String {
-    let place = context.history.received_before(lost.index);
+    let place = context.findings.starts()[lost.index].received;
     if place == 0 {
         return "its last receive: none before".to_string();
     }

@@ -22,15 +22,18 @@ pub(super) struct Overlooked {
     pub(super) count: u64,
     channel: u32,
     receiver: u32,
+    // The place of its last look, or 0.
+    look: u64,
 }
 
 /// Returns the receivers that never looked at some changes, and then those that never marked some.
 pub(super) fn found(context: &Context<'_>) -> Vec<Overlooked> {
-    let totals = context.findings.totals();
-    let mut looked: Vec<_> = totals.iter().filter_map(unlooked).collect();
+    let findings = context.findings;
+    let totals = || findings.totals().iter().zip(findings.receipts());
+    let mut looked: Vec<_> = totals().filter_map(unlooked).collect();
     // The sorts are stable: others are in the order of channel and number.
     looked.sort_by_key(|it| (!was_used(context, it), Reverse(it.count)));
-    let marked = totals.iter().filter_map(|totals| unmarked(context, totals));
+    let marked = totals().filter_map(|totals| unmarked(context, totals));
     let mut marked: Vec<_> = marked.collect();
     marked.sort_by_key(|it| Reverse(it.count));
     looked.into_iter().chain(marked).collect()
@@ -43,13 +46,14 @@ fn was_used(context: &Context<'_>, it: &Overlooked) -> bool {
 }
 
 /// Returns the receiver if it never looked at some changes.
-fn unlooked(totals: &Totals) -> Option<Overlooked> {
+fn unlooked((totals, look): (&Totals, &u64)) -> Option<Overlooked> {
     match totals.counts {
         Counts::Watch(counts) if counts.unlooked > 0 => Some(Overlooked {
             what: Unreceived::Looked,
             count: counts.unlooked,
             channel: totals.channel,
             receiver: totals.receiver,
+            look: *look,
         }),
         _ => None,
     }
@@ -57,7 +61,7 @@ fn unlooked(totals: &Totals) -> Option<Overlooked> {
 
 /// Returns the receiver if it asked for new versions, and looked at some that it never marked:
 /// `changed` tells of them once more.
-fn unmarked(context: &Context<'_>, totals: &Totals) -> Option<Overlooked> {
+fn unmarked(context: &Context<'_>, (totals, look): (&Totals, &u64)) -> Option<Overlooked> {
     let Counts::Watch(counts) = totals.counts else {
         return None;
     };
@@ -71,6 +75,7 @@ fn unmarked(context: &Context<'_>, totals: &Totals) -> Option<Overlooked> {
         count: counts.missed,
         channel,
         receiver,
+        look: *look,
     })
 }
 
@@ -81,16 +86,17 @@ pub(super) fn fact(context: &Context<'_>, overlooked: &Overlooked) -> Fact {
         count,
         channel,
         receiver,
+        ..
     } = *overlooked;
     let called = context.naming.receiver(channel, receiver);
-    let came = context.history.channel(channel).sent_to(receiver);
+    let came = context.traffic.channel(channel).came_to(receiver);
     let of = visible::counted(came, "change");
     let changes = format!("{count} of {of} of {}", context.naming.channel(channel));
     let (order, kind, said) = match what {
         Unreceived::Looked => (5, "unlooked", format!("never looked at {changes}")),
         Unreceived::Marked => (6, "unmarked", format!("never marked {changes} as seen")),
     };
-    let steps = steps(context, channel, receiver);
+    let steps = steps(context, overlooked);
     let mut sights: Vec<_> = (0..steps.len()).collect();
     sights.sort_by_key(|index| steps[*index].role != Role::Change);
     Fact {
@@ -113,13 +119,11 @@ pub(super) fn fact(context: &Context<'_>, overlooked: &Overlooked) -> Fact {
 
 /// Returns the last change that came to a receiver, and its last look if it ever looked, in their
 /// order.
-fn steps(context: &Context<'_>, channel: u32, receiver: u32) -> Vec<FactStep> {
-    let history = context.history.channel(channel);
-    let change = history.last_sent_to(receiver);
-    let change = change.map(|send| (send.place, Role::Change));
-    let look = history.handle(receiver);
-    let look = look.map(|receiver| (receiver.last_value, Role::Look));
-    let known = change.into_iter().chain(look);
+fn steps(context: &Context<'_>, overlooked: &Overlooked) -> Vec<FactStep> {
+    let traffic = context.traffic.channel(overlooked.channel);
+    let change = traffic.last_came_to(overlooked.receiver);
+    let change = change.map(|value| (value.since, Role::Change));
+    let known = change.into_iter().chain([(overlooked.look, Role::Look)]);
     let mut known: Vec<_> = known.filter(|(place, _)| *place > 0).collect();
     known.sort_by_key(|(place, _)| *place);
     let steps = known.into_iter();
