@@ -16,7 +16,7 @@ pub returns-in-End-clause-ok : goal.returns-in-End-clause-ok
 returns-in-End-clause-ok g c = ends c.each_line.invariant (rw c.in-End.is at c.in_ok-next_short_line.ensures.ok)
 
 pub returns-in-TooLong-clause-ok : goal.returns-in-TooLong-clause-ok
-returns-in-TooLong-clause-ok g c = fault_long c.each_line.invariant (rw c.in-TooLong.is at c.in_ok-next_short_line.ensures.ok)
+returns-in-TooLong-clause-ok g c = rw c.lines.ensures (fault_long c.each_line.invariant (rw c.in-TooLong.is at c.in_ok-next_short_line.ensures.ok))
 
 pub returns-then-is_mark-clause-ok : goal.returns-then-is_mark-clause-ok
 returns-then-is_mark-clause-ok g c =
