@@ -1,4 +1,6 @@
-"""run.py BROWSER [NAME..]: runs the page's tests in a browser, all of them or those that are named. The last line counts them."""
+"""run.py BROWSER [NAME..]: runs the page's tests in a browser, all of them or those that are named. `--failing` in the place of names stands for those
+that open what failing tests have left, and `--others` for all but these, so that the two can run side by side. The last line counts them.
+"""
 import sys
 import tempfile
 import time
@@ -62,6 +64,9 @@ TESTS = [
     bare(answers.example_sessions), bare(answers.random_commands), bare(answers.spoiled_texts),
 ]
 
+# Those that open what the tests of `failing` have left, which cargo runs once for all of them.
+OF_FAILING = {*accounts.TESTS, *against.TESTS, *failing.TESTS, *layout.TESTS, *search.TESTS, *story.TESTS, jumps.report_as_markdown}
+
 
 def passes(name, run):
     start = time.monotonic()
@@ -89,6 +94,8 @@ def in_tab(test, browser, journals):
 
 def named(word):
     """The tests of this name, or else those whose names have it as a part."""
+    if word in ("--failing", "--others"):
+        return [test for test in TESTS if (test in OF_FAILING) == (word == "--failing")]
     tests = [test for test in TESTS if test.__name__ == word] or [test for test in TESTS if word in test.__name__]
     if not tests:
         print(f"no test of the page has {word} in its name\n0 passed, 1 failed")

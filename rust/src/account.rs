@@ -20,6 +20,7 @@ mod saying;
 #[cfg(test)]
 mod tests;
 mod times;
+mod traffic;
 mod unknown;
 pub(crate) mod visible;
 mod waits;
@@ -40,6 +41,7 @@ use finding::Finding;
 use history::History;
 use naming::Naming;
 use times::Times;
+use traffic::Traffic;
 use window::WindowSaid;
 
 /// How many facts a report tells in full. The others are counted.
@@ -57,6 +59,7 @@ struct Context<'a> {
     times: Times<'a>,
     failure: &'a Failure,
     findings: &'a Findings,
+    traffic: &'a Traffic,
 }
 
 impl Context<'_> {
@@ -182,17 +185,17 @@ impl Account {
     ///
     /// Returns `NoMemory` if there is none for what is found.
     pub(crate) fn on(run: &Run, names: &Names) -> Result<Account, TextFault> {
-        Ok(Account::of(run, names, &run.findings()?))
+        let history = History::of(run, names);
+        Account::with(run, names, &run.findings()?, &history)
     }
 
-    /// Makes the account of a run of which this was found.
-    fn of(run: &Run, names: &Names, findings: &Findings) -> Account {
-        let history = History::of(run, findings.losses(), names);
-        Account::with(run, names, findings, &history)
-    }
-
-    /// The same, of a run of which the history is known too.
-    fn with(run: &Run, names: &Names, findings: &Findings, history: &History) -> Account {
+    /// Makes the account of a run of which this was found, and the history is known.
+    fn with(
+        run: &Run,
+        names: &Names,
+        findings: &Findings,
+        history: &History,
+    ) -> Result<Account, TextFault> {
         let context = Context {
             run,
             names,
@@ -201,13 +204,14 @@ impl Account {
             times: Times::of(names),
             failure: &Failure::of(run, names, history),
             findings,
+            traffic: &Traffic::of(run, names, findings)?,
         };
         let found = Finding::all(&context);
         let unknown = unknown::lines(&context);
         let worded = found.iter().take(MOST_FACTS);
         let facts: Vec<_> = worded.map(|finding| finding.fact(&context)).collect();
         let failure = context.failure.end().map(|end| end.place);
-        Account {
+        Ok(Account {
             calls: history.calls(),
             channels: run.specs().len() as u64,
             window: WindowSaid::of(names, run.len()),
@@ -221,9 +225,9 @@ impl Account {
             facts,
             rest: Rest::of(&found),
             waiting: waits::all(&context),
-            losses: history.losses().to_vec(),
+            losses: context.traffic.losses().iter().map(|it| it.loss).collect(),
             root: names.ending.root.clone(),
-        }
+        })
     }
 }
 
@@ -232,7 +236,7 @@ fn nothing(context: &Context<'_>, unknown: &[String], facts: &[Fact]) -> Option<
     let calls = visible::counted(context.history.calls(), "call");
     let channels = visible::counted(context.run.specs().len() as u64, "channel");
     match (unknown, facts) {
-        ([], _) if context.history.losses().is_empty() => {
+        ([], _) if context.traffic.losses().is_empty() => {
             Some(format!("no value was lost in {calls} on {channels}"))
         }
         ([_, ..], []) => Some(format!("nothing was found in {calls} on {channels}")),

@@ -7,12 +7,14 @@
 #[cfg(test)]
 pub(crate) mod tests;
 
+pub(crate) use crate::source::rw_findings::{ChannelValue, Life, values_between, values_by};
 pub(crate) use crate::source::rw_recording::{
     Closing, Counts, Findings, LateReader, Loss, LossEnd, Spec, TextFault, Totals,
 };
 
 use crate::reply::Reply;
 use crate::shim::alloc::Global;
+use crate::source::rw_findings::{lives_of, values_of};
 use crate::source::rw_law::{self, NoMemory};
 use crate::source::rw_navigator::Debugger;
 use crate::source::rw_recording::{self, ChanCall, World};
@@ -114,6 +116,30 @@ impl Run {
     /// Returns `NoMemory` if there is none.
     pub(crate) fn findings(&self) -> Result<Findings, TextFault> {
         Findings::of(Global, &self.0).map_err(|_| TextFault::NoMemory)
+    }
+
+    /// Returns the values of a channel by number.
+    ///
+    /// # Errors
+    ///
+    /// Returns `NoMemory` if there is none for them.
+    pub(crate) fn values(&self, channel: u32) -> Result<Vec<ChannelValue<u64>>, TextFault> {
+        match values_of(Global, &self.0, channel) {
+            Ok(values) => Ok(values.into_iter().collect()),
+            Err(NoMemory) => Err(TextFault::NoMemory),
+        }
+    }
+
+    /// Returns the lives of a channel's handles, by the handle's number.
+    ///
+    /// # Errors
+    ///
+    /// Returns `NoMemory` if there is none for them.
+    pub(crate) fn lives(&self, channel: u32) -> Result<Vec<Life>, TextFault> {
+        match lives_of(Global, &self.0, channel) {
+            Ok(lives) => Ok(lives.into_iter().collect()),
+            Err(NoMemory) => Err(TextFault::NoMemory),
+        }
     }
 
     /// What the channels were opened as.

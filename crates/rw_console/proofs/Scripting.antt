@@ -10,14 +10,15 @@ use Rattle.std.proofs.lemmas.List.Elements.{All-push, All-nil}
 use Rattle.rw_lines.specs.declared.streams.StreamFault.{StreamFault}
 use Rattle.rw_lines.specs.declared.streams.StreamFault.TheVariants.{Read, Write, TooMuch, NoMemory}
 use Rattle.rw_lines.specs.Lines.{IsUnbroken, lines, unlines}
-use Rattle.rw_lines.specs.Reading.{kept_part, GivesLine, GivesLast, GivesNone, StopsBecause, StopsInLine}
+use Rattle.rw_lines.specs.Reading.{kept_part, GivesLine, GivesLast, GivesLong, GivesNone, StopsBecause, StopsInLine}
 use Rattle.rw_lines.proofs.Known.{Consumes-none, Consumes-then}
-use Rattle.rw_lines.proofs.LineLaws.{lines_last, lines_unlines, unlines_push}
+use Rattle.rw_lines.proofs.LineLaws.{lines_front, lines_last, lines_unlines, unlines_push}
 use Rattle.rw_script.specs.declared.faults.ScriptFault.{ScriptFault}
+use Rattle.rw_script.specs.declared.faults.ScriptFaultKind.TheVariants.{TooLong}
 use Rattle.rw_script.specs.Script.{ScriptReader, opening, after_line, script_at_end, script_from, script_in, after_mark, is_mark}
 use Rattle.rw_words.specs.Words.{◌>>=◌}
 use Rattle.rw_console.specs.ScriptReading.{GivesScript, GivesAll, GivesFault, StopsInScript, ExplainsScript, HasMark}
-use Rattle.rw_console.proofs.Kept.{is_mark-kept, after_line-kept}
+use Rattle.rw_console.proofs.Kept.{is_mark-kept, is_mark_long, after_line-kept, after_line_long}
 use Rattle.rw_console.proofs.Answering.{line_after}
 
 pub record Scripting (reader reader' : Option (List ℕ)) (before allowed : ℕ) (reading : ScriptReader) : Type 0 where
@@ -201,6 +202,28 @@ fault_line {r0 = r0} {r = r} {r' = r'} {reading = reading} s l plain f refused =
       bytes = bytes;
       few = omega (arith, length-append (unlines s.ls) (l.text ++ 10 ∷ []), length-append l.text (10 ∷ []), l.count, s.count);
       read = Consumes-then r0 r r' (unlines s.ls) (l.text ++ 10 ∷ []) s.read l.read;
+      script = ap (λ (x : List ℕ). script_in (lines x)) (sym (append-nil bytes)) ∙ at [];
+      whole = inr at;
+    }
+
+-- at a line that is too long, whatever follows its first bytes
+pub fault_long : {r0 r r' : Option (List ℕ)} {before allowed allowed' : ℕ} {reading : ScriptReader} {line : List ℕ}
+    → (s : Scripting r0 r before allowed reading) (l : GivesLong r r' allowed allowed' line)
+    → GivesFault r0 r' before (record { line = reading.lines + 1; kind = TooLong })
+fault_long {r0 = r0} {r = r} {r' = r'} {reading = reading} {line = line} s l =
+    let f : ScriptFault = record { line = reading.lines + 1; kind = TooLong } in
+    let bytes : List ℕ = unlines s.ls ++ line in
+    let at : (more : List ℕ) → script_in (lines (bytes ++ more)) ≡ Err f = λ more.
+    let front = lines_front line more l.unbroken (omega (arith, l.long)) in
+    let text : List ℕ = line ++ front.0 in
+    let long : 256 < length text = omega (arith, length-append line front.0, l.long) in
+    ap script_in (ap lines (append_assoc (unlines s.ls) line more) ∙ lines_unlines s.ls (line ++ more) s.each
+      ∙ ap (λ (x : List (List ℕ)). s.ls ++ x) front.2)
+    ∙ s.script (text ∷ front.1) ∙ at_line_said reading (Err f) text front.1 (is_mark_long text long) (after_line_long reading text long) in
+    record {
+      bytes = bytes;
+      few = omega (arith, length-append (unlines s.ls) line, l.count, s.count);
+      read = Consumes-then r0 r r' (unlines s.ls) line s.read l.read;
       script = ap (λ (x : List ℕ). script_in (lines x)) (sym (append-nil bytes)) ∙ at [];
       whole = inr at;
     }

@@ -4,7 +4,7 @@ ghost use Rattle.std.specs.Prelude.{◌≡◌, ◌+◌, ◌-◌, ◌^◌, ◌<�
 ghost use Rattle.rw_script.specs.Script.{opening, after_line};
 ghost use Rattle.rw_console.specs.ScriptReading.{GivesSessionScript, GivesLines, StopsInScript};
 
-use rw_lines::{Next, StreamFault, next_line};
+use rw_lines::{NextShort, StreamFault, next_short_line};
 use rw_script::{Script, ScriptFault, ScriptFaultKind, ScriptReader, is_mark};
 use std::alloc::Global;
 use std::io::Read;
@@ -16,7 +16,7 @@ pub enum ScriptEnd {
     Mark,
     /// At the reader's end.
     Reader,
-    /// After the first line with a fault.
+    /// At the first line with a fault: after it, or where it is too long.
     Fault(ScriptFault),
 }
 
@@ -48,7 +48,7 @@ fn read_line(script: &mut ScriptReader, line: &[u8]) -> Result<Option<ScriptFaul
     }
 }
 
-/// Reads the lines of a script.
+/// Reads the lines of a script. Of a line that is too long, it reads no more than shows that.
 fn read_lines<R: Read>(
     alloc: Global,
     reader: &mut R,
@@ -62,9 +62,15 @@ fn read_lines<R: Read>(
 {
     let mut line = Vec::new(alloc);
     'each_line: loop {
-        match next_line(reader, allowed, &mut line)? {
-            Next::End => return Ok(ScriptEnd::Reader),
-            Next::Last => {
+        match next_short_line(reader, allowed, &mut line)? {
+            NextShort::End => return Ok(ScriptEnd::Reader),
+            NextShort::TooLong => {
+                return Ok(ScriptEnd::Fault(ScriptFault {
+                    line: script.lines() + 1,
+                    kind: ScriptFaultKind::TooLong,
+                }));
+            }
+            NextShort::Last => {
                 if is_mark(&line) {
                     return Ok(ScriptEnd::Reader);
                 }
@@ -73,7 +79,7 @@ fn read_lines<R: Read>(
                     None => return Ok(ScriptEnd::Reader),
                 }
             }
-            Next::Line => {
+            NextShort::Line => {
                 if is_mark(&line) {
                     return Ok(ScriptEnd::Mark);
                 }

@@ -32,3 +32,9 @@ pub mod PeakSums
 pub mod ValuePlaces
 pub mod OneList
 pub mod UniqueFindings
+pub mod UniqueLives
+pub mod LagSteps
+pub mod LossLaws
+pub mod ReceiptSteps
+pub mod StartSteps
+pub mod ValueCounts

@@ -96,17 +96,17 @@ module _ {V : Type 0} where
   comes_watch y (w.Mark h from to) = inl (refl, refl)
   comes_watch y (w.Leave h kind mark) = inl (refl, refl)
 
-  comes : (x : ChanShown V) (call : ChanCall V) → (of_chan {V = V}).allowed x → Comes x ((of_chan {V = V}).next x call)
+  pub comes : (x : ChanShown V) (call : ChanCall V) → (of_chan {V = V}).allowed x → Comes x ((of_chan {V = V}).next x call)
   comes (broadcast_shown x) (call_of.B call) ok = comes_broadcast x (b.effect (bs.channel_of x) call).0 ok
   comes (broadcast_shown x) (call_of.W call) ok = inl (refl, refl)
   comes (watch_shown y) (call_of.B call) ok = inl (refl, refl)
   comes (watch_shown y) (call_of.W call) ok = comes_watch y (w.effect y call).0
 
   module _ (shows : ShowsAtPlaces V) (run : Run V) (c : ℕ) where
-    count_is : (p : ℕ) (x : ChanShown V) → slice_get (shown_at run p) c ≡ Some x → count_at run c p ≡ count_in x
+    pub count_is : (p : ℕ) (x : ChanShown V) → slice_get (shown_at run p) c ≡ Some x → count_at run c p ≡ count_in x
     count_is p x here = ap (λ o. option_map_or count_in o 0) here
 
-    oldest_is : (p : ℕ) (x : ChanShown V) → slice_get (shown_at run p) c ≡ Some x → oldest_at run c p ≡ oldest_in x
+    pub oldest_is : (p : ℕ) (x : ChanShown V) → slice_get (shown_at run p) c ≡ Some x → oldest_at run c p ≡ oldest_in x
     oldest_is p x here = ap (λ o. option_map_or oldest_in o 0) here
 
     value_is : (p n : ℕ) (x : ChanShown V) → slice_get (shown_at run p) c ≡ Some x → value_at run c n p ≡ value_in x n

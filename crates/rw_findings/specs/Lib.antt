@@ -10,4 +10,5 @@ pub mod Following
 pub mod Lives
 pub mod Peaks
 pub mod Values
+pub mod Receivers
 pub mod Laws

@@ -1,5 +1,6 @@
 //! What holds of the findings of every run.
-ghost use Rattle.rw_findings.specs.Laws.{LossesAreUnique, TotalsAreUnique, ClosingsAreUnique, PeaksAreUnique};
+ghost use Rattle.rw_findings.specs.Laws.{ClosingsAreUnique, LivesAreUnique, LossesAreUnique, LostValuesFollow};
+ghost use Rattle.rw_findings.specs.Laws.{PeaksAreUnique, ToldLossesAreReplies, TotalsAreUnique, ValuesAreUnique};
 
 /// A run has its findings in one way alone. The function does nothing: its clauses are the laws.
 pub fn unique_findings<V: Copy>()
@@ -7,4 +8,12 @@ pub fn unique_findings<V: Copy>()
     ensures totals { TotalsAreUnique V }
     ensures closings { ClosingsAreUnique V }
     ensures peaks { PeaksAreUnique V }
+    ensures lives { LivesAreUnique V }
+    ensures values { ValuesAreUnique V }
+{}
+
+/// Losses are of values that follow one another, and agree with the replies that told of them. The function does nothing.
+pub fn losses_and_entries<V: Copy>()
+    ensures values { LostValuesFollow V }
+    ensures told { ToldLossesAreReplies V }
 {}

@@ -6,9 +6,11 @@
 //! `totals_of` counts what each receiver received and missed, by `specs/Totals.antt`.
 //! `closings_of` finds where channels were closed, by `specs/Closings.antt`.
 //! `peaks_of` has the greatest lags in stretches of places (`specs/Peaks.antt`), and `lives_of` when handles were made and
-//! dropped, and who called with them (`specs/Lives.antt`). `values_of` has a channel's values by number, by `specs/Values.antt`.
+//! dropped, and who called with them (`specs/Lives.antt`). `values_of` has a channel's values by number, by `specs/Values.antt`,
+//! and `values_between` counts those that came between two places.
+//! `starts_of` finds where losses began, and `last_receipts_of` where receivers were last given a value (`specs/Receivers.antt`).
 //! Start reading at `specs/Losses.antt`, and then at `losses/finding.rt`. Peaks, lives and values are found with a machine of one channel,
-//! by `following.rt`. Closings are found with a `Debugger`.
+//! by `following.rt`. Closings, and where losses began, are found with a `Debugger`.
 #![tactic(auto)]
 
 mod closings;
@@ -18,13 +20,15 @@ mod laws;
 mod lives;
 mod losses;
 mod peaks;
+mod starts;
 mod totals;
 mod values;
 
 pub use closings::{Closing, Closings, LateReader, closings_of};
-pub use laws::unique_findings;
+pub use laws::{losses_and_entries, unique_findings};
 pub use lives::{Life, lives_of};
 pub use losses::{Loss, LossEnd, losses_of};
 pub use peaks::{Measure, Peaks, Stretches, peaks_of};
+pub use starts::{LossStart, last_receipts_of, starts_of};
 pub use totals::{BroadcastCounts, Counts, Totals, WatchCounts, totals_of};
-pub use values::{ChannelValue, values_of};
+pub use values::{ChannelValue, values_between, values_by, values_of};

@@ -1,7 +1,9 @@
 //! The values of a channel: since when each is there, and where it was overwritten.
 
+mod counting;
 mod finding;
 mod value;
 
+pub use counting::{values_between, values_by};
 pub use finding::values_of;
 pub use value::ChannelValue;

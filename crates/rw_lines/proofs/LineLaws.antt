@@ -29,6 +29,21 @@ lines_last (b ∷ c ∷ text) h lt =
     let p = and_parts (not (eqb b 10)) (lacks 10 (c ∷ text)) h in
     lines-cons b (c ∷ text) p.0 ∙ ap (onto_first b) (lines_last (c ∷ text) p.1 (omega arith))
 
+front_of : (b : ℕ) (more : List ℕ) → not (eqb b 10) ≡ true → (ls : List (List ℕ)) → lines more ≡ ls
+    → (rest : List ℕ) × (after : List (List ℕ)) × (lines (b ∷ more) ≡ (b ∷ rest) ∷ after)
+front_of b more ne [] e = ([], [], lines-cons b more ne ∙ ap (onto_first b) e)
+front_of b more ne (l ∷ ls) e = (l, ls, lines-cons b more ne ∙ ap (onto_first b) e)
+
+-- bytes that begin with a part of a line: their first line begins with it
+pub lines_front : (text more : List ℕ) → IsUnbroken text → 0 < length text
+    → (rest : List ℕ) × (after : List (List ℕ)) × (lines (text ++ more) ≡ (text ++ rest) ∷ after)
+lines_front [] more h lt = absurd (omega arith)
+lines_front (b ∷ []) more h lt = front_of b more (and_parts (not (eqb b 10)) true h).0 (lines more) refl
+lines_front (b ∷ c ∷ text) more h lt =
+    let p = and_parts (not (eqb b 10)) (lacks 10 (c ∷ text)) h in
+    let on = lines_front (c ∷ text) more p.1 (omega arith) in
+    (on.0, on.1, lines-cons b (c ∷ text ++ more) p.0 ∙ ap (onto_first b) on.2)
+
 -- lines with their LF, followed by more bytes
 pub lines_unlines : (ls : List (List ℕ)) (bs : List ℕ) → All IsUnbroken ls → lines (unlines ls ++ bs) ≡ ls ++ lines bs
 lines_unlines [] bs h = refl

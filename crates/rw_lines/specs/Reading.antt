@@ -4,6 +4,8 @@ use Rattle.std.specs.Io.KnownBytes.{Consumes, IsAtEnd}
 use Rattle.rw_lines.specs.declared.lines.TheConstants.{LONGEST_LINE}
 use Rattle.rw_lines.specs.declared.lines.Next.{Next}
 use Rattle.rw_lines.specs.declared.lines.Next.TheVariants.{Line, Last, End}
+use Rattle.rw_lines.specs.declared.lines.NextShort.{NextShort}
+use Rattle.rw_lines.specs.declared.lines.NextShort.TheVariants as short
 use Rattle.rw_lines.specs.declared.streams.StreamFault.{StreamFault}
 use Rattle.rw_lines.specs.declared.streams.StreamFault.TheVariants.{Read, Write, TooMuch, NoMemory}
 use Rattle.rw_lines.specs.Lines.{IsUnbroken}
@@ -41,6 +43,19 @@ abbrev pub GivesNext : Option (List ℕ) → Option (List ℕ) → ℕ → ℕ �
 GivesNext old new before after line Line = GivesLine old new before after line
 GivesNext old new before after line Last = GivesLast old new before after line
 GivesNext old new before after line End = GivesNone old new before after
+
+-- The first bytes of a line were read, one more than the longest line has, and they are stored.
+pub record GivesLong (old new : Option (List ℕ)) (before after : ℕ) (line : List ℕ) : Type 0 where
+  pub unbroken : IsUnbroken line
+  pub long : length line ≡ LONGEST_LINE + 1
+  pub read : Consumes old new line
+  pub count : length line + after ≡ before
+
+abbrev pub GivesNextShort : Option (List ℕ) → Option (List ℕ) → ℕ → ℕ → List ℕ → NextShort → Type 0
+GivesNextShort old new before after line short.Line = GivesLine old new before after line × (length line ≤ LONGEST_LINE)
+GivesNextShort old new before after line short.Last = GivesLast old new before after line × (length line ≤ LONGEST_LINE)
+GivesNextShort old new before after line short.TooLong = GivesLong old new before after line
+GivesNextShort old new before after line short.End = GivesNone old new before after
 
 -- Why reading stopped within a line, after this text of it was read.
 -- At TooMuch, the text's last byte is the first one that wasn't allowed.

@@ -13,7 +13,7 @@ mod streams;
 mod tokens;
 
 pub use bytes::{put_bytes, put_number, put_small_number};
-pub use lines::{LONGEST_LINE, Next, is_skipped, next_line};
+pub use lines::{LONGEST_LINE, Next, NextShort, is_skipped, next_line, next_short_line};
 pub use numerals::{numeral, push_number};
 pub use streams::{ShortWrite, StreamFault, flush, next_byte, put, put_out, put_whole};
 pub use tokens::{cut, is_name, is_word};

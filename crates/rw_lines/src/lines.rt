@@ -1,8 +1,8 @@
 //! Lines of bytes.
 
-ghost use Rattle.std.specs.Prelude.{◌≡◌, ◌-◌, length, IfOk, IfErr};
+ghost use Rattle.std.specs.Prelude.{◌≡◌, ◌+◌, ◌-◌, ◌≤◌, length, IfOk, IfErr};
 ghost use Rattle.rw_lines.specs.Lines.{is_skipped};
-ghost use Rattle.rw_lines.specs.Reading.{GivesNext, IsKept, StopsInLine};
+ghost use Rattle.rw_lines.specs.Reading.{GivesNext, GivesNextShort, IsKept, StopsInLine};
 
 use crate::streams::{StreamFault, next_byte};
 use std::io::Read;
@@ -21,6 +21,61 @@ pub enum Next {
     End,
 }
 
+/// What `next_short_line` read.
+#[derive(Clone, Copy, Debug, PartialEq, Eq)]
+pub enum NextShort {
+    /// A line that ended with LF.
+    Line,
+    /// The last line, which lacks its LF.
+    Last,
+    /// The first bytes of a line that is too long: one more than the longest line has.
+    TooLong,
+    /// No byte was left.
+    End,
+}
+
+/// Reads the next line into `line`, without its LF, as `next_line` does. But it stops as soon as the line is too long, and so
+/// reads one byte more than the longest line has at most.
+///
+/// `allowed` is how many more bytes may be read, and counts down. After an `Err`, `allowed` shows how many bytes were read, and
+/// `line` has those that were stored.
+pub fn next_short_line<R: Read>(
+    reader: &mut R,
+    allowed: &mut u64,
+    line: &mut Vec<u8>,
+) -> Result<NextShort, StreamFault>
+    ensures ok { IfOk result (GivesNextShort (R.remaining reader.old) (R.remaining reader.new)
+        allowed.old allowed.new line.new.items) }
+    ensures few { allowed.old ≤ allowed.new + (LONGEST_LINE + 1) }
+    ensures err { IfErr result
+        (StopsInLine (R.remaining reader.old) (R.remaining reader.new) allowed.old) }
+    ensures kept { IfErr result (IsKept (allowed.old - allowed.new) (length line.new.items)) }
+{
+    line.clear();
+    'each_byte: loop {
+        let Some(byte) = next_byte(reader)? else {
+            return Ok(if line.is_empty() {
+                NextShort::End
+            } else {
+                NextShort::Last
+            });
+        };
+        if *allowed == 0 {
+            return Err(StreamFault::TooMuch);
+        }
+        *allowed -= 1;
+        if byte == b'\n' {
+            return Ok(NextShort::Line);
+        }
+        if line.push(byte).is_err() {
+            return Err(StreamFault::NoMemory);
+        }
+        if line.len() > LONGEST_LINE {
+            return Ok(NextShort::TooLong);
+        }
+    }
+}
+
 /// Reads the next line into `line`, without its LF. Of a line that is too long, it stores one byte more than the longest line
 /// has, which shows that the line is too long.
 ///
@@ -37,14 +92,15 @@ pub fn next_line<R: Read>(
         (StopsInLine (R.remaining reader.old) (R.remaining reader.new) allowed.old) }
     ensures kept { IfErr result (IsKept (allowed.old - allowed.new) (length line.new.items)) }
 {
-    line.clear();
+    match next_short_line(reader, allowed, line)? {
+        NextShort::Line => return Ok(Next::Line),
+        NextShort::Last => return Ok(Next::Last),
+        NextShort::End => return Ok(Next::End),
+        NextShort::TooLong => {}
+    }
     'each_byte: loop {
         let Some(byte) = next_byte(reader)? else {
-            return Ok(if line.is_empty() {
-                Next::End
-            } else {
-                Next::Last
-            });
+            return Ok(Next::Last);
         };
         if *allowed == 0 {
             return Err(StreamFault::TooMuch);
@@ -52,9 +108,6 @@ pub fn next_line<R: Read>(
         *allowed -= 1;
         if byte == b'\n' {
             return Ok(Next::Line);
-        }
-        if line.len() <= LONGEST_LINE && line.push(byte).is_err() {
-            return Err(StreamFault::NoMemory);
         }
     }
 }

@@ -3,7 +3,10 @@
 ghost use Rattle.std.specs.Prelude.{◌≡◌, IfOk};
 ghost use Rattle.rw_recording.specs.Findings.{AreFindings, IsFoundIn};
 
-use rw_findings::{Closing, Closings, LateReader, Loss, Totals, closings_of, losses_of, totals_of};
+use rw_findings::{
+    Closing, Closings, LateReader, Loss, LossStart, Totals, closings_of, last_receipts_of,
+    losses_of, starts_of, totals_of,
+};
 use rw_journal::Run;
 use rw_law::NoMemory;
 use rw_text::{TextFault, read};
@@ -15,7 +18,9 @@ use std::marker::Model;
 pub struct Findings {
     entries: u64,
     losses: Vec<Loss>,
+    starts: Vec<LossStart>,
     totals: Vec<Totals>,
+    receipts: Vec<u64>,
     closings: Vec<Closing>,
     late: Vec<LateReader>,
 }
@@ -25,7 +30,15 @@ impl Model for Findings {
 
     ghost Value = { Seen };
 
-    ghost view = { λ f. record { entries = f.entries; losses = f.losses.items; totals = f.totals.items; closings = f.closings.items; late = f.late.items } };
+    ghost view = { λ f. record {
+      entries = f.entries;
+      losses = f.losses.items;
+      starts = f.starts.items;
+      totals = f.totals.items;
+      receipts = f.receipts.items;
+      closings = f.closings.items;
+      late = f.late.items;
+    } };
 }
 
 impl Findings {
@@ -34,12 +47,16 @@ impl Findings {
         ensures { IfOk result (AreFindings run.now) }
     {
         let losses = losses_of(alloc, run)?;
+        let starts = starts_of(alloc, run, &losses)?;
         let totals = totals_of(alloc, run)?;
+        let receipts = last_receipts_of(alloc, run, &totals)?;
         let Closings { channels, readers } = closings_of(alloc, run)?;
         Ok(Findings {
             entries: run.len(),
             losses,
+            starts,
             totals,
+            receipts,
             closings: channels,
             late: readers,
         })
@@ -70,11 +87,25 @@ impl Findings {
         self.losses.as_slice()
     }
 
+    /// Returns where each loss began, in the order of the losses.
+    pub fn starts(&self) -> &[LossStart]
+        ensures { result.now ≡ self.now.starts }
+    {
+        self.starts.as_slice()
+    }
+
     /// Returns the totals of all receivers in the order of channels, then of receivers.
     pub fn totals(&self) -> &[Totals]
         ensures { result.now ≡ self.now.totals }
     {
         self.totals.as_slice()
+    }
+
+    /// Returns the place at which each receiver was last given a value, or 0, in the order of the totals.
+    pub fn receipts(&self) -> &[u64]
+        ensures { result.now ≡ self.now.receipts }
+    {
+        self.receipts.as_slice()
     }
 
     /// Returns the channels that were closed, in their order.

@@ -30,7 +30,7 @@ pub use recording::Recording;
 pub use run_reader::RunReader;
 pub use rw_broadcast::{BCall, BReply};
 pub use rw_findings::{
-    BroadcastCounts, Closing, Counts, LateReader, Loss, LossEnd, Totals, WatchCounts,
+    BroadcastCounts, Closing, Counts, LateReader, Loss, LossEnd, LossStart, Totals, WatchCounts,
 };
 pub use rw_handles::Kind;
 pub use rw_journal::{Run, TakeFault};

@@ -3,8 +3,8 @@
 
 use super::fact::{Fact, FactStep, Role};
 use super::failure::FailureAt;
-use super::history::LostValues;
 use super::naming::Called;
+use super::traffic::LostValues;
 use super::{Context, visible};
 use crate::names::Json;
 use crate::run::{Loss, LossEnd, Spec};
@@ -40,7 +40,7 @@ pub(super) struct Lost {
     pub(super) count: u64,
     losses: u64,
     rank: Rank,
-    // The loss that is told in detail, and its index.
+    // The loss that is told in detail, and its index among those of the traffic.
     told: Loss,
     index: usize,
 }
@@ -82,7 +82,8 @@ pub(super) fn found(context: &Context<'_>) -> Vec<Lost> {
     let waiting = context.names.waiting.iter();
     let waiting: BTreeSet<_> = waiting.map(|call| (call.channel, call.handle)).collect();
     let mut by_receiver: BTreeMap<_, Lost> = BTreeMap::new();
-    for (index, loss) in context.history.losses().iter().enumerate() {
+    for (index, windowed) in context.traffic.losses().iter().enumerate() {
+        let loss = &windowed.loss;
         let key = (loss.channel, loss.receiver);
         let is_waited_for = waiting.contains(&(key.0.into(), key.1.into()));
         let rank = rank(context, &told_last, loss, is_waited_for);
@@ -135,12 +136,9 @@ impl Lost {
 
 /// Puts the losses of a receiver into words.
 pub(super) fn fact(context: &Context<'_>, lost: &Lost) -> Fact {
-    let Context {
-        history, naming, ..
-    } = context;
     let loss = &lost.told;
-    let receiver = naming.receiver(loss.channel, loss.receiver);
-    let values = history.lost(loss);
+    let receiver = context.naming.receiver(loss.channel, loss.receiver);
+    let values = context.traffic.lost(lost.index);
     let end = ToldEnd::of(context, loss);
     Fact {
         order: lost.rank.order(),
@@ -195,7 +193,7 @@ fn members(
     end: ToldEnd,
 ) -> Vec<(&'static str, Json)> {
     let loss = &lost.told;
-    let came = context.history.channel(loss.channel).came_to(loss.receiver);
+    let came = context.traffic.channel(loss.channel).came_to(loss.receiver);
     let mut members = vec![
         ("channel", Json::number(loss.channel)),
         ("receiver", Json::number(loss.receiver)),
@@ -218,7 +216,7 @@ fn headline(context: &Context<'_>, lost: &Lost, receiver: &Called) -> String {
         lost: most,
         ..
     } = lost.told;
-    let came = context.history.channel(channel).came_to(number);
+    let came = context.traffic.channel(channel).came_to(number);
     let at_most = if came.is_most { "at most " } else { "" };
     let which = match lost.rank {
         Rank::ToldLast(_) => "the one told before the failure",
@@ -296,14 +294,13 @@ fn end_step(context: &Context<'_>, lost: &Lost, end: ToldEnd) -> FactStep {
 
 /// Whether the receiver was there before the window.
 fn is_older(context: &Context<'_>, lost: &Lost) -> bool {
-    let channel = context.history.channel(lost.told.channel);
-    let receiver = channel.handle(lost.told.receiver);
-    receiver.is_some_and(|receiver| receiver.is_older)
+    let channel = context.traffic.channel(lost.told.channel);
+    channel.is_older(lost.told.receiver)
 }
 
 /// Says which value the receiver received last. It receives none while it lags.
 fn last_receive(context: &Context<'_>, lost: &Lost) -> String {
-    let place = context.history.received_before(lost.index);
+    let place = context.traffic.losses()[lost.index].received;
     if place == 0 {
         let before = if is_older(context, lost) {
             "in the window"

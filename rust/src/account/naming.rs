@@ -1,11 +1,11 @@
 //! What the text calls the things of a run: by their names, and by their numbers where they have
 //! none.
 
-use super::history::{History, SentValue};
+use super::history::History;
 use super::visible;
 use crate::names::{Names, SourceLocation};
 use crate::reply::Reply;
-use crate::run::RunEntry;
+use crate::run::{ChannelValue, RunEntry};
 use crate::word::Word;
 
 /// The names of a run.
@@ -109,9 +109,9 @@ impl<'a> Naming<'a> {
         texts.get(&value).map(|text| visible::quoted(text))
     }
 
-    /// Returns the values of these sends, on one line.
-    pub(super) fn values(&self, channel: u32, sends: &[SentValue]) -> String {
-        visible::list(sends, |send| self.value(channel, send.value))
+    /// Returns these values, on one line.
+    pub(super) fn values(&self, channel: u32, values: &[ChannelValue<u64>]) -> String {
+        visible::list(values, |value| self.value(channel, value.value))
     }
 
     /// Returns the value that a call returned, or nothing.

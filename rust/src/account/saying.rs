@@ -23,8 +23,8 @@ impl Saying {
     /// Returns `NoMemory` if there is none for what is found.
     pub(crate) fn of(run: &Run, names: Names) -> Result<(Saying, Account), TextFault> {
         let findings = run.findings()?;
-        let history = History::of(run, findings.losses(), &names);
-        let account = Account::with(run, &names, &findings, &history);
+        let history = History::of(run, &names);
+        let account = Account::with(run, &names, &findings, &history)?;
         Ok((Saying { names, history }, account))
     }
 

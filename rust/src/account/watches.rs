@@ -22,18 +22,19 @@ pub(super) struct Overlooked {
     pub(super) count: u64,
     channel: u32,
     receiver: u32,
+    // The place of its last look, or 0.
+    look: u64,
 }
 
 /// Returns the receivers that never looked at some changes, and then those that never marked some.
 pub(super) fn found(context: &Context<'_>) -> Vec<Overlooked> {
-    let totals = context.findings.totals();
-    let looked = totals.iter();
-    let mut looked: Vec<_> = looked
-        .filter_map(|totals| unlooked(context, totals))
-        .collect();
+    let findings = context.findings;
+    let totals = || findings.totals().iter().zip(findings.receipts());
+    let looked = totals().filter_map(|totals| unlooked(context, totals));
+    let mut looked: Vec<_> = looked.collect();
     // The sorts are stable: others are in the order of channel and number.
     looked.sort_by_key(|it| (!was_used(context, it), Reverse(it.count)));
-    let marked = totals.iter().filter_map(|totals| unmarked(context, totals));
+    let marked = totals().filter_map(|totals| unmarked(context, totals));
     let mut marked: Vec<_> = marked.collect();
     marked.sort_by_key(|it| Reverse(it.count));
     looked.into_iter().chain(marked).collect()
@@ -50,25 +51,33 @@ fn counts(context: &Context<'_>, totals: &Totals) -> Option<[u64; 2]> {
     let Counts::Watch(counts) = totals.counts else {
         return None;
     };
-    let channel = context.history.channel(totals.channel);
-    let [missed, unlooked] = channel.missed_in_lead(totals.receiver);
-    Some([counts.missed - missed, counts.unlooked - unlooked])
+    let Totals {
+        channel, receiver, ..
+    } = *totals;
+    let came = context.traffic.channel(channel).came_in_lead(receiver);
+    let handle = context.history.channel(channel).handle(receiver)?;
+    let all_but = |is_one| came.saturating_sub(u64::from(is_one));
+    Some([
+        counts.missed - all_but(handle.marked_first),
+        counts.unlooked - all_but(handle.looked_first),
+    ])
 }
 
 /// Returns the receiver if it never looked at some changes.
-fn unlooked(context: &Context<'_>, totals: &Totals) -> Option<Overlooked> {
+fn unlooked(context: &Context<'_>, (totals, look): (&Totals, &u64)) -> Option<Overlooked> {
     let [_, unlooked] = counts(context, totals)?;
     (unlooked > 0).then_some(Overlooked {
         what: Unreceived::Looked,
         count: unlooked,
         channel: totals.channel,
         receiver: totals.receiver,
+        look: *look,
     })
 }
 
 /// Returns the receiver if it asked for new versions, and looked at some that it never marked:
 /// `changed` tells of them once more.
-fn unmarked(context: &Context<'_>, totals: &Totals) -> Option<Overlooked> {
+fn unmarked(context: &Context<'_>, (totals, look): (&Totals, &u64)) -> Option<Overlooked> {
     let [missed, unlooked] = counts(context, totals)?;
     let Totals {
         channel, receiver, ..
@@ -79,6 +88,7 @@ fn unmarked(context: &Context<'_>, totals: &Totals) -> Option<Overlooked> {
         count: missed,
         channel,
         receiver,
+        look: *look,
     })
 }
 
@@ -89,14 +99,18 @@ pub(super) fn fact(context: &Context<'_>, overlooked: &Overlooked) -> Fact {
         count,
         channel,
         receiver,
+        ..
     } = *overlooked;
     let called = context.naming.receiver(channel, receiver);
-    let history = context.history.channel(channel);
-    let came = history.came_to(receiver).count;
+    let traffic = context.traffic.channel(channel);
+    let came = traffic.came_to(receiver).count;
     let of = visible::counted(came, "change");
     let changes = format!("{count} of {of} of {}", context.naming.channel(channel));
-    let is_older = history.handle(receiver).is_some_and(|it| it.is_older);
-    let here = if is_older { " in the window" } else { "" };
+    let here = if traffic.is_older(receiver) {
+        " in the window"
+    } else {
+        ""
+    };
     let (order, kind, said) = match what {
         Unreceived::Looked => (5, "unlooked", format!("never looked at {changes}{here}")),
         Unreceived::Marked => {
@@ -104,7 +118,7 @@ pub(super) fn fact(context: &Context<'_>, overlooked: &Overlooked) -> Fact {
             (6, "unmarked", said)
         }
     };
-    let steps = steps(context, channel, receiver);
+    let steps = steps(context, overlooked);
     let mut sights: Vec<_> = (0..steps.len()).collect();
     sights.sort_by_key(|index| steps[*index].role != Role::Change);
     Fact {
@@ -127,14 +141,13 @@ pub(super) fn fact(context: &Context<'_>, overlooked: &Overlooked) -> Fact {
 
 /// Returns the last change that came to a receiver, and its last look if it ever looked, in their
 /// order.
-fn steps(context: &Context<'_>, channel: u32, receiver: u32) -> Vec<FactStep> {
-    let history = context.history.channel(channel);
-    let change = history.last_sent_to(receiver);
-    let change = change.map(|send| (send.place, Role::Change));
-    let look = history.handle(receiver);
-    let look = look.map(|receiver| (receiver.last_value, Role::Look));
-    let known = change.into_iter().chain(look);
-    let mut known: Vec<_> = known.filter(|(place, _)| *place > 0).collect();
+fn steps(context: &Context<'_>, overlooked: &Overlooked) -> Vec<FactStep> {
+    let traffic = context.traffic.channel(overlooked.channel);
+    let change = traffic.last_came_to(overlooked.receiver);
+    let change = change.map(|value| (value.since, Role::Change));
+    let known = change.into_iter().chain([(overlooked.look, Role::Look)]);
+    let lead = context.history.lead;
+    let mut known: Vec<_> = known.filter(|(place, _)| *place > lead).collect();
     known.sort_by_key(|(place, _)| *place);
     let steps = known.into_iter();
     steps

@@ -8,6 +8,9 @@ use std::fmt;
 /// It contains the value that was not sent. As in tokio, the value that the channel holds is then
 /// the previous one.
 ///
+/// `{:?}` leaves the value out, which therefore need not be `Debug`. So does tokio 1.53; tokio 1.24
+/// prints the value.
+///
 /// # Examples
 ///
 /// ```

@@ -5,14 +5,19 @@ use real_tokio::task::{self, JoinHandle};
 use std::future::Future;
 
 /// Spawns a future by a method of tokio's. Where a test is explored, it is wrapped before: its
-/// polls are chosen then. Else it is wrapped where its polls need a budget of yovanelum's, or the
-/// task a number of this package. It is for functions that track their caller, whose place tells
-/// the task from others.
+/// polls are chosen then. Else it is wrapped where its polls need a budget of yovanelum's. In both
+/// it is wrapped where the task needs a number of this package. It is for functions that track
+/// their caller, whose place tells the task from others.
 macro_rules! seen {
     ($future:ident => $spawn:expr) => {
         if yovanelum::is_explored() {
             let $future = yovanelum::explored($future);
-            $spawn
+            if crate::tasks::are_told() {
+                $spawn
+            } else {
+                let $future = crate::tasks::numbered($future);
+                $spawn
+            }
         } else if crate::budget::is_offered() && crate::tasks::are_told() {
             $spawn
         } else {

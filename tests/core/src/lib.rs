@@ -39,11 +39,16 @@ pub fn in_time<R: Send + 'static>(act: impl FnOnce() -> R + Send + 'static) -> R
 
 /// How much of each workload a bench does: what its first number says, or `few` as a test and `many` else.
 pub fn asked(few: u64, many: u64) -> u64 {
-    let mut words = env::args().skip(1);
+    asked_at(0, few, many)
+}
+
+/// What the number at this place says.
+pub fn asked_at(place: usize, few: u64, many: u64) -> u64 {
     let default = if env::args().any(|word| word == "--bench") {
         many
     } else {
         few
     };
-    words.find_map(|word| word.parse().ok()).unwrap_or(default)
+    let mut numbers = env::args().skip(1).filter_map(|word| word.parse().ok());
+    numbers.nth(place).unwrap_or(default)
 }

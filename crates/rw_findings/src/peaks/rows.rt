@@ -51,7 +51,7 @@ impl Model for Peaks {
 
 impl Peaks {
     /// Returns peaks that are all 0.
-    pub(super) fn new(alloc: Global) -> Peaks
+    pub(crate) fn new(alloc: Global) -> Peaks
         ensures { result ≡ [] }
     {
         Peaks {
@@ -78,7 +78,7 @@ impl Peaks {
 
     /// Raises a receiver's peak in a stretch to this level, if it is lower.
     #[tactic(auto, using(crate::proofs::PeakSums::push_default))]
-    pub(super) fn raise(
+    pub(crate) fn raise(
         &mut self,
         alloc: Global,
         receiver: usize,

@@ -82,7 +82,7 @@ impl<'a> Side<'a> {
         let specs = (0..).zip(run.specs());
         let mut side = Side {
             names,
-            history: History::of(run, &[], names),
+            history: History::of(run, names),
             calls: Vec::with_capacity(run.len() as usize),
             channels: specs
                 .map(|(number, spec)| {

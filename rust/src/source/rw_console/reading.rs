@@ -6,7 +6,7 @@ use crate::shim::Vec; //+
 //~ ghost use Rattle.rw_script.specs.Script.{opening, after_line};
 //~ ghost use Rattle.rw_console.specs.ScriptReading.{GivesSessionScript, GivesLines, StopsInScript};
 
-use crate::source::rw_lines::{Next, StreamFault, next_line};
+use crate::source::rw_lines::{NextShort, StreamFault, next_short_line};
 use crate::source::rw_script::{Script, ScriptFault, ScriptFaultKind, ScriptReader, is_mark};
 use crate::shim::alloc::Global;
 use crate::shim::io::Read;
@@ -18,7 +18,7 @@ pub enum ScriptEnd {
     Mark,
     /// At the reader's end.
     Reader,
-    /// After the first line with a fault.
+    /// At the first line with a fault: after it, or where it is too long.
     Fault(ScriptFault),
 }
 
@@ -50,7 +50,7 @@ fn read_line(script: &mut ScriptReader, line: &[u8]) -> Result<Option<ScriptFaul
     }
 }
 
-/// Reads the lines of a script.
+/// Reads the lines of a script. Of a line that is too long, it reads no more than shows that.
 fn read_lines<R: Read>(
     alloc: Global,
     reader: &mut R,
@@ -64,9 +64,15 @@ fn read_lines<R: Read>(
 {
     let mut line = Vec::new(alloc);
     'each_line: loop {
-        match next_line(reader, allowed, &mut line)? {
-            Next::End => return Ok(ScriptEnd::Reader),
-            Next::Last => {
+        match next_short_line(reader, allowed, &mut line)? {
+            NextShort::End => return Ok(ScriptEnd::Reader),
+            NextShort::TooLong => {
+                return Ok(ScriptEnd::Fault(ScriptFault {
+                    line: script.lines() + 1,
+                    kind: ScriptFaultKind::TooLong,
+                }));
+            }
+            NextShort::Last => {
                 if is_mark(&line) {
                     return Ok(ScriptEnd::Reader);
                 }
@@ -75,7 +81,7 @@ fn read_lines<R: Read>(
                     None => return Ok(ScriptEnd::Reader),
                 }
             }
-            Next::Line => {
+            NextShort::Line => {
                 if is_mark(&line) {
                     return Ok(ScriptEnd::Mark);
                 }

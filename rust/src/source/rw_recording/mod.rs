@@ -32,7 +32,7 @@ pub use run_reader::RunReader;
 pub use window::Window;
 pub use crate::source::rw_broadcast::{BCall, BReply};
 pub use crate::source::rw_findings::{
-    BroadcastCounts, Closing, Counts, LateReader, Loss, LossEnd, Totals, WatchCounts,
+    BroadcastCounts, Closing, Counts, LateReader, Loss, LossEnd, LossStart, Totals, WatchCounts,
 };
 pub use crate::source::rw_handles::Kind;
 pub use crate::source::rw_journal::{Run, TakeFault};

@@ -58,6 +58,21 @@ async fn the_day_ends_after_its_orders() {
     assert_eq!(day(true).await, [1, 2, 3, 0]);
 }
 
+#[tokio::test]
+#[ignore = "it is explored by another test"]
+async fn the_audit_lags() {
+    let _recorder = Recorder::for_test("the_audit_lags");
+    let (tx, mut rx) = broadcast::channel(2);
+    let audit = tokio::spawn(async move { rx.recv().await });
+    let clerk = tokio::spawn(async move {
+        for id in 1..=3 {
+            tx.send(id).unwrap();
+        }
+    });
+    clerk.await.unwrap();
+    assert_eq!(audit.await.unwrap(), Ok(1));
+}
+
 /// Two futures that send their numbers. The tasks of a runtime are polled in the order in which
 /// they were spawned, unless they are explored.
 fn two() -> (
@@ -204,6 +219,15 @@ fn an_order_of_tasks_without_names_is_found() {
     ] {
         assert!(said.contains(part), "{part} in {said}");
     }
+}
+
+#[test]
+fn tasks_without_names_are_actors_in_the_report() {
+    let (passes, said) = explored("the_audit_lags");
+    assert!(!passes, "{said}");
+    let lost = ") lost 1 of 3 values of channel 0 (capacity 2)";
+    let told = |line: &str| line.starts_with("error: `task ") && line.ends_with(lost);
+    assert!(said.lines().any(told), "{said}");
 }
 
 #[test]

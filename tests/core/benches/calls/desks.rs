@@ -5,6 +5,7 @@ use proved::rw_desk::{Desk, Pass};
 use proved::rw_journal::Book;
 use proved::rw_seat::{DeskSeat, SeatDesk};
 use proved::rw_world::{ChanCall, Spec, open_channel};
+use proved::shim::sync::Mutex;
 use proved::{Global, RT};
 use std::time::{Duration, Instant};
 
@@ -55,6 +56,16 @@ pub fn on_seat(spec: Spec<u64>, calls: &[ChanCall<u64>]) -> Cost {
     let start = Start::now();
     make_by_seat(&desk, seat, 0, calls);
     start.cost()
+}
+
+/// How long a desk's lock takes alone, which tries before it waits.
+pub fn on_lock(times: u64) -> Duration {
+    let lock = Mutex::new(0);
+    let begin = Instant::now();
+    for _ in 0..times {
+        *lock.try_lock().unwrap() += 1;
+    }
+    begin.elapsed()
 }
 
 /// How long a desk of 8 channels takes to close, after each of its actors has made the calls on its own channel.

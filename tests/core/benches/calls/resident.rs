@@ -12,6 +12,13 @@ pub struct Cost {
     pub bytes: u64,
 }
 
+impl Cost {
+    /// A cost whose bytes aren't measured.
+    pub fn of(time: Duration) -> Cost {
+        Cost { time, bytes: 0 }
+    }
+}
+
 /// The time before the calls, and the memory in use.
 pub struct Start {
     time: Instant,

@@ -6,9 +6,9 @@ use proved::rw_desk::{Desk, Pass};
 use proved::rw_seat::SeatDesk;
 use proved::rw_world::{ChanCall, ChanReply, Spec};
 use proved::{Global, RT};
-use std::hint::spin_loop;
 use std::sync::atomic::AtomicU64;
 use std::sync::atomic::Ordering::SeqCst;
+use std::thread;
 use std::time::{Duration, Instant};
 use support::side_by_side;
 
@@ -45,7 +45,7 @@ pub fn apart_on_seats(calls: &[ChanCall<u64>]) -> Duration {
 fn send_all(desk: &Desk<u64>, pass: &mut Pass<u64>, read: &AtomicU64, count: u64) {
     for i in 0..count {
         while i.saturating_sub(read.load(SeqCst)) >= MOST_UNREAD {
-            spin_loop();
+            thread::yield_now();
         }
         desk.wait_call(&RT, pass, 0, ChanCall::B(BCall::Send(0, i)))
             .unwrap();

@@ -4,7 +4,8 @@ use crate::recorded::{SENT, run_of, send};
 use proved::Global;
 use proved::rw_broadcast::{BCall, BReply};
 use proved::rw_findings::{
-    LossEnd, Measure, Stretches, closings_of, lives_of, losses_of, peaks_of, totals_of, values_of,
+    LossEnd, Measure, Stretches, closings_of, last_receipts_of, lives_of, losses_of, peaks_of,
+    starts_of, totals_of, values_between, values_of,
 };
 use proved::rw_journal::{Run, RunDraft};
 use proved::rw_navigator::{Cond, HitIndex, Navigator};
@@ -38,6 +39,17 @@ pub fn losses(size: u64) -> bool {
     losses.len() as u64 == size && is_last
 }
 
+/// Where the same losses begin: each has one value, and nothing was ever received.
+pub fn starts(size: u64) -> bool {
+    let told = [(send(1), SENT), of(BCall::TryRecv(1), BReply::Lagged(1))];
+    let calls = (0..size).flat_map(|_| told);
+    let run = run([(send(0), SENT)].into_iter().chain(calls));
+    let losses = losses_of(Global, &run).unwrap();
+    let starts = starts_of(Global, &run, &losses).unwrap();
+    let firsts = starts.iter().map(|start| (start.first, start.received));
+    firsts.eq((0..size).map(|number| (number, 0)))
+}
+
 /// So many receivers are created beside receiver 1.
 fn created(size: u64) -> impl Iterator<Item = (ChanCall<u64>, ChanReply<u64>)> {
     (0..size).map(|number| of(BCall::Subscribe(0), BReply::New(number as u32 + 2)))
@@ -62,6 +74,17 @@ pub fn totals(size: u64) -> bool {
     totals_of(Global, &closed(size)).unwrap().len() as u64 == size + 1
 }
 
+/// Each of so many receivers receives one value.
+pub fn receipts(size: u64) -> bool {
+    let receives =
+        (1..size + 2).map(|receiver| of(BCall::TryRecv(receiver as u32), BReply::Value(7)));
+    let sent = of(BCall::Send(0, 7), BReply::Sent(size + 1));
+    let run = run(created(size).chain([sent]).chain(receives));
+    let totals = totals_of(Global, &run).unwrap();
+    let places = last_receipts_of(Global, &run, &totals).unwrap();
+    places.iter().copied().eq(size + 2..2 * size + 3)
+}
+
 pub fn lives(size: u64) -> bool {
     let lives = lives_of(Global, &run(created(size)), 0).unwrap();
     lives.len() as u64 == size + 2
@@ -69,7 +92,8 @@ pub fn lives(size: u64) -> bool {
 
 pub fn values(size: u64) -> bool {
     let values = values_of(Global, &run_of(size).unwrap(), 0).unwrap();
-    values.len() as u64 == size
+    let between = values_between(&values, 1, size);
+    (values.len() as u64, between) == (size, size - 1)
 }
 
 pub fn peaks(size: u64) -> bool {

@@ -1,11 +1,14 @@
 //! Each public function that has a limit, once at it and once one below, where it does all that is asked; and once above, where it says that
 //! this is too much. A function without a limit of its own is at the greatest that it can be given.
 //!
+//! `covered` says for each function that compares something with a limit which row it is, so that none is without one.
+//!
 //! No contract can refuse a body that gives up for lack of memory above some size. Here memory is there, so such a body fails. How many
 //! bytes the program reads at most is among its runs (`tests/program`).
 #![cfg(test)]
 
 mod channels;
+mod covered;
 mod desks;
 mod found;
 mod recorded;
@@ -53,6 +56,9 @@ fn holds(limit: &Limit) {
 /// The table. After `to` more is refused, and after `of` no more can be asked for.
 macro_rules! limits {
     ($($function:literal $word:ident $most:literal, $seconds:literal s: $part:ident::$name:ident;)+) => {
+        /// The names of the rows.
+        const ROWS: &[&str] = &[$($function),+];
+
         $(
             mod $name {
                 #[test]
@@ -78,8 +84,14 @@ limits! {
     "open, channels" to 64, 2 s: channels::worlds;
     "Book::take" to 1_048_576, 2 s: recorded::book;
     "Ledger::take, entries_of" to 1_048_576, 4 s: recorded::ledger;
+    "Book::take, stamps" to 4_611_686_018_427_387_904, 2 s: recorded::stamps;
+    "RecentCalls::take, stamps" to 2_305_843_009_213_693_952, 2 s: recorded::recent_stamps;
+    "RecentCalls::open, a chunk" of 524_288, 4 s: recorded::recent_chunk;
+    "RunDraft::push, actors" to 64, 2 s: recorded::draft_actors;
+    "RunDraft::push, stamps" to 4_611_686_018_427_387_904, 2 s: recorded::draft_stamps;
     "RunDraft::push" to 1_048_576, 2 s: recorded::draft;
     "merge_all" of 1_048_576, 4 s: recorded::merged;
+    "merge_all, refusal_to_merge, channels" of 64, 2 s: recorded::merged_channels;
     "merge_calls" of 1_048_576, 2 s: recorded::merged_calls;
     "Recording::call" to 1_048_576, 2 s: recorded::recording;
     "Recording::call, after its end" of 2_097_152, 2 s: recorded::unrecorded;
@@ -93,14 +105,28 @@ limits! {
     "SeatDesk::call, a ring" of 65_536, 2 s: desks::seat_ring;
     "HandOff::open" of 64, 2 s: desks::hand_off;
     "Script::read, a line" to 256, 2 s: texts::line;
+    "Script::read, channels" to 64, 2 s: texts::script_channels;
+    "Script::read, a capacity" to 65_536, 2 s: texts::script_capacity;
+    "Script::read, actors" to 64, 2 s: texts::script_actors;
+    "Script::read, a name" to 16, 2 s: texts::script_name;
     "Script::read, run_one" to 1_048_576, 4 s: texts::steps;
     "read, write, salvage" to 1_048_576, 12 s: texts::journal;
+    "read, channels" to 64, 2 s: texts::journal_channels;
+    "read, a capacity" to 65_536, 2 s: texts::journal_capacity;
+    "read, a line" to 256, 2 s: texts::journal_line;
+    "read, actors" to 64, 2 s: texts::journal_actors;
+    "read, stamps" to 4_611_686_018_427_387_904, 2 s: texts::journal_stamps;
+    "session, bytes" to 268_435_456, 12 s: texts::session_bytes;
+    "debug, bytes" to 268_435_456, 12 s: texts::debug_bytes;
+    "debug, indexes" of 257, 2 s: texts::debug_indexes;
     "read_whole" to 268_435_456, 4 s: texts::bytes;
     "losses_of, losses" of 524_287, 2 s: found::losses;
+    "starts_of, losses" of 524_287, 4 s: found::starts;
     "closings_of, late readers" of 65_534, 2 s: found::late_readers;
     "totals_of, receivers" of 65_534, 2 s: found::totals;
+    "last_receipts_of, receivers" of 65_534, 2 s: found::receipts;
     "lives_of, handles" of 65_534, 2 s: found::lives;
-    "values_of, values" of 1_048_576, 4 s: found::values;
+    "values_of, values_between, values" of 1_048_576, 4 s: found::values;
     "peaks_of, stretches" of 1_048_576, 4 s: found::peaks;
     "Findings::read" of 1_048_576, 8 s: found::findings;
     "HitIndex::build" of 1_048_576, 3 s: found::hits;

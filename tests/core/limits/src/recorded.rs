@@ -3,9 +3,9 @@
 use crate::channels::channel;
 use proved::rw_broadcast::{BCall, BReply};
 use proved::rw_journal::{
-    Book, ChanLedger, Ledger, MergeFault, PushFault, Run, RunDraft, TakeFault,
+    Book, ChanLedger, Ledger, MergeFault, PushFault, RecentCalls, Run, RunDraft, StoredCall,
+    TakeFault, entries_of, merge_all, merge_calls, refusal_to_merge,
 };
-use proved::rw_journal::{entries_of, merge_all, merge_calls};
 use proved::rw_law::Entry;
 use proved::rw_recording::{Cut, CutFault, Recording, RunReader};
 use proved::rw_world::{Chan, ChanCall, ChanReply, RowCall, Spec};
@@ -178,4 +178,60 @@ pub fn cut_calls(size: u64) -> bool {
     let mut reader = RunReader::read(Global, &text).unwrap();
     let calls = std::iter::from_fn(|| reader.next_call());
     cut.run(Global).unwrap().len() == size && calls.count() as u64 == size
+}
+
+pub fn stamps(size: u64) -> bool {
+    let mut book = Book::open(Global, channel(TWO[0])).unwrap();
+    is_taken(book.take(0, size - 1, send(1))) && book.entries()[0].stamp == size
+}
+
+/// Appends an entry of this actor with this stamp to a draft.
+fn pushed(actor: u64, stamp: u64) -> bool {
+    let mut draft = RunDraft::open(Global, &TWO).unwrap();
+    let call = RowCall {
+        channel: 0,
+        call: send(1),
+    };
+    let pushed = draft.push(actor as u32, stamp, call, SENT);
+    assert!(matches!(pushed, Ok(_) | Err(PushFault::Limit)));
+    pushed.is_ok()
+}
+
+pub fn draft_stamps(size: u64) -> bool {
+    pushed(0, size)
+}
+
+pub fn draft_actors(size: u64) -> bool {
+    pushed(size - 1, 1)
+}
+
+type Recent = RecentCalls<Chan<u64>, StoredCall<u64>>;
+
+pub fn recent_stamps(size: u64) -> bool {
+    let mut recent = Recent::open(Global, channel(TWO[0]), 2).unwrap();
+    is_taken(recent.take(0, size - 1, send(1)))
+}
+
+/// Makes one call more than two chunks have.
+pub fn recent_chunk(size: u64) -> bool {
+    let mut recent = Recent::open(Global, channel(TWO[0]), size as usize).unwrap();
+    for value in 0..=2 * size {
+        assert_eq!(recent.take(0, value, send(value)).unwrap().reply, SENT);
+    }
+    (recent.dropped(), recent.len()) == (size, size + 1)
+}
+
+/// Merges as many channels, with one entry each, by as many actors.
+pub fn merged_channels(size: u64) -> bool {
+    let journals: Vec<Vec<Entry<_>>> = (0..size)
+        .map(|number| {
+            let mut book = Book::open(Global, channel(TWO[0])).unwrap();
+            book.take(number as u32, number, send(number)).unwrap();
+            book.entries().iter().map(Entry::copied).collect()
+        })
+        .collect();
+    assert!(refusal_to_merge(&journals).is_none());
+    let specs = (0..size).map(|_| TWO[0]).collect();
+    let run = merge_all(Global, specs, &journals).unwrap();
+    (run.len(), run.entries().last().unwrap().actor) == (size, size as u32 - 1)
 }

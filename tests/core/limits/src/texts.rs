@@ -1,7 +1,7 @@
 //! Scripts, journal texts and whole inputs.
 
 use crate::recorded::run_of;
-use proved::rw_console::SessionFault;
+use proved::rw_console::{Outcome, SessionFault, debug, session};
 use proved::rw_program::read_whole;
 use proved::rw_script::{Script, ScriptFaultKind, run_one};
 use proved::rw_text::{TextFault, read, salvage, write};
@@ -66,4 +66,111 @@ pub fn bytes(size: u64) -> bool {
             false
         }
     }
+}
+
+pub fn script_channels(size: u64) -> bool {
+    let text = "watch 0\n".repeat(size as usize);
+    steps_of(text.as_bytes(), ScriptFaultKind::TooManyChannels).is_some()
+}
+
+pub fn script_capacity(size: u64) -> bool {
+    let text = format!("broadcast {size}\n");
+    steps_of(text.as_bytes(), ScriptFaultKind::BadCapacity).is_some()
+}
+
+pub fn script_actors(size: u64) -> bool {
+    let text = format!("broadcast 1\nactors {size}\n");
+    steps_of(text.as_bytes(), ScriptFaultKind::BadActors).is_some()
+}
+
+pub fn script_name(size: u64) -> bool {
+    let name = "n".repeat(size as usize);
+    let text = format!("broadcast 1\n0 0 clone-sender 0 as {name}\n");
+    steps_of(text.as_bytes(), ScriptFaultKind::BadArguments).is_some()
+}
+
+/// The fault of a journal with these lines after its first, or None.
+fn fault_of(lines: &str) -> Option<TextFault> {
+    let text = format!("ttd-journal 2\n{lines}");
+    read::<u64>(Global, text.as_bytes()).err()
+}
+
+/// Whether a journal is read. If not, a limit is exceeded in this line.
+fn is_read(lines: &str, line: u64) -> bool {
+    match fault_of(lines) {
+        None => true,
+        Some(fault) => {
+            assert_eq!(fault, TextFault::LimitExceeded(line));
+            false
+        }
+    }
+}
+
+pub fn journal_channels(size: u64) -> bool {
+    let channels = "watch 0\n".repeat(size as usize);
+    is_read(&format!("{channels}steps\nend\n"), size + 1)
+}
+
+pub fn journal_capacity(size: u64) -> bool {
+    is_read(&format!("broadcast {size}\nsteps\nend\n"), 2)
+}
+
+/// No line that is accepted is as long. One that is no longer is malformed.
+pub fn journal_line(size: u64) -> bool {
+    let fault = fault_of(&format!("{}\n", "x".repeat(size as usize))).unwrap();
+    assert!(matches!(
+        fault,
+        TextFault::Malformed(2) | TextFault::LimitExceeded(2)
+    ));
+    fault == TextFault::Malformed(2)
+}
+
+pub fn journal_actors(size: u64) -> bool {
+    let entry = format!("1 {} 0 send 0 0 = sent 1", size - 1);
+    is_read(&format!("broadcast 2\nsteps\n{entry}\nend\n"), 4)
+}
+
+pub fn journal_stamps(size: u64) -> bool {
+    let entry = format!("{size} 0 0 send 0 0 = sent 1");
+    is_read(&format!("broadcast 2\nsteps\n{entry}\nend\n"), 4)
+}
+
+/// Reads as many empty lines, which name no channel.
+pub fn session_bytes(size: u64) -> bool {
+    let mut output = Vec::new(Global);
+    match session(Global, &mut io::repeat(b'\n').take(size), &mut output) {
+        Ok(Outcome::Refused(fault)) => fault.kind == ScriptFaultKind::NoChannels,
+        ended => {
+            assert_eq!(ended, Err(SessionFault::TooMuch));
+            false
+        }
+    }
+}
+
+/// Reads one command of as many bytes.
+pub fn debug_bytes(size: u64) -> bool {
+    let run = run_of(1).unwrap();
+    let mut output = Vec::new(Global);
+    match debug(Global, &run, &mut io::repeat(b'x').take(size), &mut output) {
+        Ok(()) => output.as_slice().ends_with(b"bad command\n"),
+        ended => {
+            assert_eq!(ended, Err(SessionFault::TooMuch));
+            false
+        }
+    }
+}
+
+/// Searches for as many conditions, and for the first once more.
+pub fn debug_indexes(size: u64) -> bool {
+    let run = run_of(1).unwrap();
+    let commands: String = (0..size)
+        .chain([0])
+        .map(|channel| format!("rforward channel {channel}\n"))
+        .collect();
+    let mut output = Vec::new(Global);
+    debug(Global, &run, &mut commands.as_bytes(), &mut output).unwrap();
+    let output = String::from_utf8(output.to_vec()).unwrap();
+    let mut lines = output.lines();
+    let first = lines.next().unwrap();
+    output.lines().count() as u64 == size + 1 && lines.all(|line| line == first)
 }

@@ -1,8 +1,8 @@
 //! Lines and pieces over readers and writers that work in small pieces and fail at a call.
 
 use proved::Global;
-use proved::rw_lines::next_line;
-use proved::rw_lines::{Next, ShortWrite, StreamFault, flush, put, put_whole};
+use proved::rw_lines::{Next, NextShort, ShortWrite, StreamFault, flush, put, put_whole};
+use proved::rw_lines::{next_line, next_short_line};
 use std::io::{Read, Write};
 use support::devices::{FailingReader, FailingWriter};
 
@@ -84,6 +84,38 @@ fn keeps_enough_of_long_lines() {
         keeps(&input, &mut line, *length, *kept);
         drop(input);
     }
+}
+
+/// How long a line is, what is read of it, and how many bytes of it and of what follows it are left.
+static SHORT_LENGTHS: [(usize, NextShort, usize); 5] = [
+    (0, NextShort::Line, 1),
+    (256, NextShort::Line, 1),
+    (257, NextShort::TooLong, 2),
+    (258, NextShort::TooLong, 3),
+    (700, NextShort::TooLong, 445),
+];
+
+#[test]
+fn short_lines_are_read_and_no_others() {
+    let mut line = proved::Vec::new(Global);
+    for (length, next, unread) in &SHORT_LENGTHS {
+        let input = long_line(*length);
+        let mut reader = FailingReader::new(&input, 7, None);
+        let answer = next_short_line(&mut reader, &mut 702, &mut line);
+        let found = (answer, line.len(), reader.unread().len());
+        assert_eq!(found, (Ok(*next), *length.min(&257), *unread));
+    }
+}
+
+#[test]
+fn a_line_is_too_long_before_a_read_fails() {
+    let input = long_line(300);
+    let mut line = proved::Vec::new(Global);
+    let mut reader = FailingReader::new(&input, 1, Some(257));
+    let short = next_short_line(&mut reader, &mut 257, &mut line);
+    let failed = next_short_line(&mut reader, &mut 257, &mut line);
+    drop(line);
+    assert_eq!((short, failed), (Ok(NextShort::TooLong), Err(StreamFault::Read)));
 }
 
 #[test]

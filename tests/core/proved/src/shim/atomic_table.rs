@@ -1,14 +1,13 @@
-//! A safe stand-in for the kit's `atomic_table`: words and slots behind one lock.
+//! A safe stand-in for the kit's `atomic_table`: atomic words, as in the kit, and slots behind a lock each.
 //!
-//! In the kit a step on a word is atomic and a seat has no bytes. Its proofs say who may use a slot. Here the lock does both, so what a test
-//! sees of a hand-off is its protocol, and not the kit's atomic operations.
+//! In the kit a seat has no bytes and a slot no lock: its proofs say who may use a slot. Here the lock says it.
 
 use super::Vec;
 use super::alloc::Global;
 use super::sync::Wait;
 use std::marker::PhantomData;
-use std::mem;
-use std::sync::{Condvar, Mutex, MutexGuard};
+use std::sync::atomic::{AtomicU64, Ordering::SeqCst};
+use std::sync::{Condvar, Mutex};
 
 /// What holds of a table, which contracts alone read.
 pub trait TableRule<S, V, K> {}
@@ -31,24 +30,20 @@ impl<S, V> Seat<S, V> {
     }
 }
 
-struct Inside<S> {
-    words: Vec<u64>,
-    slots: Vec<S>,
-}
-
 /// What threads share of a table.
 pub struct Shared<S, V, K, P> {
-    table: Mutex<Inside<S>>,
+    words: Vec<AtomicU64>,
+    /// A slot is empty once the table is closed and its value was taken.
+    slots: Vec<Mutex<Option<S>>>,
+    /// What is held from a look at a word until its thread is parked, and by who wakes one.
+    parking: Mutex<()>,
     woken: Condvar,
     marker: PhantomData<fn() -> (V, K, P)>,
 }
 
 impl<S, V, K, P> Shared<S, V, K, P> {
-    fn lock(&self) -> MutexGuard<'_, Inside<S>> {
-        self.table.lock().unwrap()
-    }
-
     /// Writes `new` where the word is `old`, and returns what it was.
+    #[inline(always)]
     pub fn compare_exchange<M: Play<S, V>>(
         &self,
         _: &mut Seat<S, V>,
@@ -56,37 +51,40 @@ impl<S, V, K, P> Shared<S, V, K, P> {
         old: u64,
         new: u64,
     ) -> u64 {
-        let words = &mut self.lock().words;
-        let found = words[word];
-        if found == old {
-            words[word] = new;
+        match self.words[word].compare_exchange(old, new, SeqCst, SeqCst) {
+            Ok(found) | Err(found) => found,
         }
-        found
     }
 
+    #[inline(always)]
     pub fn store<M: Play<S, V>>(&self, _: &mut Seat<S, V>, word: usize, new: u64) {
-        self.lock().words[word] = new;
+        self.words[word].store(new, SeqCst);
     }
 
+    #[inline(always)]
     pub fn peek(&self, word: usize) -> u64 {
-        self.lock().words[word]
+        self.words[word].load(SeqCst)
     }
 
-    /// Puts a value into a slot, and returns the one that was there.
+    /// Puts a value into a slot, and returns the one that was there. Another thread's use of the slot meanwhile would be against the rule.
+    #[inline(always)]
     pub fn exchange(&self, _: &mut Seat<S, V>, slot: usize, value: S) -> S {
-        mem::replace(&mut self.lock().slots[slot], value)
+        let mut held = self.slots[slot]
+            .try_lock()
+            .expect("a slot that no other thread uses");
+        held.replace(value).expect("a value in each slot")
     }
 
     /// Blocks while the word is `expected`, until it is woken.
     pub fn park<R: Wait>(&self, _: &R, word: usize, expected: u32) {
-        let table = self.lock();
-        if table.words[word] == u64::from(expected) {
-            drop(self.woken.wait(table).unwrap());
+        let parking = self.parking.lock().unwrap();
+        if self.peek(word) == u64::from(expected) {
+            drop(self.woken.wait(parking).unwrap());
         }
     }
 
     pub fn wake_one(&self, _: usize) {
-        let _table = self.lock();
+        let _parking = self.parking.lock().unwrap();
         self.woken.notify_one();
     }
 
@@ -115,11 +113,22 @@ impl<S, V, K, P> Table<S, V, K, P, Global> {
         slots: Vec<S>,
         _: &K,
     ) -> Result<(Self, Seat<S, V>), Refused<S>> {
-        let Ok(words) = Vec::from_slice(alloc, words) else {
+        let (Ok(mut kept), Ok(mut held)) = (
+            Vec::with_capacity(alloc, words.len()),
+            Vec::with_capacity(alloc, slots.len()),
+        ) else {
             return Err(Refused { slots });
         };
+        for word in words {
+            kept.push_reserved(AtomicU64::new(*word));
+        }
+        for slot in slots {
+            held.push_reserved(Mutex::new(Some(slot)));
+        }
         let shared = Shared {
-            table: Mutex::new(Inside { words, slots }),
+            words: kept,
+            slots: held,
+            parking: Mutex::new(()),
             woken: Condvar::new(),
             marker: PhantomData,
         };
@@ -131,18 +140,17 @@ impl<S, V, K, P> Table<S, V, K, P, Global> {
     }
 
     pub fn close_with(self, _: Seat<S, V>) -> Closed<S> {
-        let table = self.shared.table.into_inner().unwrap();
-        Closed(table.slots.into_iter().map(Some).collect())
+        Closed(self.shared.slots)
     }
 }
 
 /// A table that no thread shares any more.
-pub struct Closed<S>(std::vec::Vec<Option<S>>);
+pub struct Closed<S>(Vec<Mutex<Option<S>>>);
 
 impl<S> Closed<S> {
     /// Takes the value of a slot, once.
     pub fn take(&mut self, slot: usize) -> S {
-        self.0[slot].take().unwrap()
+        self.0[slot].get_mut().unwrap().take().unwrap()
     }
 
     pub fn free(self) {}

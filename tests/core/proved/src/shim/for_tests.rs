@@ -15,14 +15,21 @@ pub trait VecExt<T> {
 }
 
 impl<T> VecExt<T> for Vec<T> {
+    #[inline(always)]
     fn insert(&mut self, at: usize, value: T) -> Result<(), AllocError> {
+        let end = self.len();
         self.push(value)?;
-        self[at..].rotate_right(1);
+        if at != end {
+            self[at..].rotate_right(1);
+        }
         Ok(())
     }
 
+    #[inline(always)]
     fn remove(&mut self, at: usize) -> T {
-        self[at..].rotate_left(1);
+        if at + 1 != self.len() {
+            self[at..].rotate_left(1);
+        }
         self.pop().expect("an item at this place")
     }
 
