@@ -29,7 +29,6 @@ pub use kept::Kept;
 pub use lead::{Dozing, Lead};
 pub use recording::Recording;
 pub use run_reader::RunReader;
-pub use window::Window;
 pub use crate::source::rw_broadcast::{BCall, BReply};
 pub use crate::source::rw_findings::{
     BroadcastCounts, Closing, Counts, LateReader, Loss, LossEnd, Totals, WatchCounts,
@@ -40,3 +39,4 @@ pub use crate::source::rw_law::{Entry, NoMemory};
 pub use crate::source::rw_text::TextFault;
 pub use crate::source::rw_watch::{WCall, WReply};
 pub use crate::source::rw_world::{ChanCall, ChanReply, OpenFault, RowCall, Spec, World};
+pub use window::Window;
