@@ -51,9 +51,9 @@ impl Recorder {
     /// most services.
     ///
     /// Of the [limits](Recorder#limits), the one of entries does not end its recording. It gives 63
-    /// numbers to threads and tasks. When a channel has created 65,536 senders and receivers, those
-    /// that are dropped are forgotten, and with them the calls that are kept. If nearly all of them
-    /// are alive, the recording of that channel ends.
+    /// numbers to threads and tasks. When a channel has created 16,384 senders and receivers, or twice
+    /// `calls_per_channel`, those that are dropped are forgotten, and with them the calls that are
+    /// kept. If it has created 65,534 and nearly all of them are alive, its recording ends.
     ///
     /// # Examples
     ///
