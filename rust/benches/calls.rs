@@ -1,5 +1,5 @@
-//! Nanoseconds a call, recorded, with a flight recorder and with no recorder set, the cases those of
-//! tokio's own bench: `cargo bench -- CALLS REPEATS`.
+//! Nanoseconds a call, recorded, with a flight recorder and with no recorder set, the cases those
+//! of tokio's own bench: `cargo bench -- CALLS REPEATS`.
 
 use std::hint::black_box;
 use std::sync::Barrier;

@@ -102,8 +102,8 @@ impl RecordedChannel {
         &self,
         state: &mut ChannelState,
         stamp: u64,
-        dump: impl FnOnce(&Arc<Shared>, &mut ChannelState) -> Option<DumpRequest>,
-    ) -> Option<DumpRequest> {
+        dump: impl FnOnce(&Arc<Shared>, &mut ChannelState) -> Option<Box<DumpRequest>>,
+    ) -> Option<Box<DumpRequest>> {
         state.last_calls.as_mut()?.note_time(stamp);
         dump(self.recorder.0.as_ref()?, state)
     }

@@ -183,8 +183,9 @@ impl Machine {
         self.has_room()
     }
 
-    /// Says that the last calls of the channel are kept alone. It is looked for dropped handles when
-    /// this many handles were made, and not much sooner: the calls before are no longer kept then.
+    /// Says that the last calls of the channel are kept alone. It is looked for dropped handles
+    /// when this many handles were made, and not much sooner: the calls before are no longer kept
+    /// then.
     pub(super) fn look_seldom(&mut self, handles: u32) {
         // The lead of a journal may need two.
         self.most = self.most.min(MOST_HANDLES - 2);

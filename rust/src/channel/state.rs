@@ -261,9 +261,9 @@ impl ChannelState {
         }
     }
 
-    /// Makes room for a further handle in a channel that keeps its last calls: if many of its handles
-    /// are dropped, they are taken out. The calls before are no longer kept then, since they have
-    /// the handles' previous numbers. Returns whether there is room.
+    /// Makes room for a further handle in a channel that keeps its last calls: if many of its
+    /// handles are dropped, they are taken out. The calls before are no longer kept then, since
+    /// they have the handles' previous numbers. Returns whether there is room.
     pub(super) fn make_room_for_handles(&mut self) -> bool {
         let Some(last) = &mut self.last_calls else {
             return false;

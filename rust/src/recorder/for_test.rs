@@ -31,8 +31,8 @@ impl Recorder {
     /// test passes, and there is no report.
     ///
     /// When a channel has made as many calls as a journal takes, 1,048,576, the last calls of each
-    /// channel are kept from then on, at least 524,288, so that what ends the test is in the journal.
-    /// Such a run can't be replayed.
+    /// channel are kept from then on, at least 524,288, so that what ends the test is in the
+    /// journal. Such a run can't be replayed.
     ///
     /// Else nothing is written or printed if the test passes, or if the result was created while
     /// its thread was panicking already. Nor is it if the process ends otherwise, as by
