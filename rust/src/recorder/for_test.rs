@@ -65,7 +65,6 @@ impl Recorder {
     #[must_use = "dropped at once, it records nothing"]
     pub fn for_test(name: &str) -> ForTest {
         let recorder = Recorder::of_test(name);
-        recorder.0.go_on_past_limit();
         ForTest {
             saved: recorder.save_on_panic(name),
             _entered: recorder.enter(),
@@ -102,6 +101,7 @@ impl Recorder {
         panic_hook::install();
         self.say_if_not_replayed(name);
         explore::begin(name);
+        self.0.go_on_past_limit();
         let test = TestRun::start(&self.0, name);
         let (recorder, of_run) = (Arc::downgrade(&self.0), Arc::downgrade(&test));
         explore::watch(recorder, move || {
