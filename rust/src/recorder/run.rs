@@ -168,10 +168,13 @@ impl RunSoFar<'_> {
         Some((number, kept))
     }
 
-    /// Copies the last calls of the channels. `own` is the copy of one of them, by its number, that
-    /// was made before.
-    pub(super) fn copied(&self, mut own: Option<(usize, KeptChannel)>) -> io::Result<Copied> {
-        let last = self.shared.last();
+    /// Copies the last calls of the channels, for a run up to this stamp. `own` is the copy of one
+    /// of them, by its number, that was made before.
+    pub(super) fn copied(
+        &self,
+        mut own: Option<(usize, KeptChannel)>,
+        last: u64,
+    ) -> io::Result<Copied> {
         let mut channels = Vec::new();
         let mut wanted = None;
         for (number, channel) in self.channels.iter().enumerate() {
@@ -199,7 +202,7 @@ impl RunSoFar<'_> {
 
     /// Returns the run of the last calls, and its names.
     fn window(&self) -> io::Result<Read> {
-        let copied = self.copied(None)?;
+        let copied = self.copied(None, self.shared.last())?;
         let (why, most) = match &self.shared.flight {
             Some(_) => (Why::asked(), Most::of_dump(copied.channels.len(), None)),
             None => (Why::past_limit(), Most::of_test()),

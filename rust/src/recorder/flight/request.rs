@@ -6,7 +6,7 @@ use super::super::window_names::Why;
 use super::dump::Dump;
 use super::writing;
 use crate::channel::{ChannelState, KeptChannel};
-use crate::clock::wall;
+use crate::clock::{Moment, wall};
 use crate::events::values;
 use crate::handle::Kind;
 use crate::source::rw_law::NoMemory;
@@ -24,6 +24,9 @@ pub(crate) struct DumpRequest {
     pub(super) folder: PathBuf,
     pub(super) keep: usize,
     pub(super) why: Why,
+    /// The last stamp that a call of it has, and when that was.
+    pub(super) last: u64,
+    pub(super) began: Option<Moment>,
     /// The channel that it is about, with its calls.
     pub(super) own: Option<(Arc<Mutex<ChannelState>>, KeptChannel)>,
     pub(super) panic: Option<NotedPanic>,
@@ -98,6 +101,7 @@ impl DumpRequest {
         };
         let (folder, keep) = flight.dumping.begin(trigger == "call")?;
         let (told, ended) = channel();
+        let last = recorder.last();
         let request = DumpRequest {
             recorder: Begun::new(recorder),
             folder,
@@ -107,6 +111,8 @@ impl DumpRequest {
                 reason,
                 at: wall(),
             },
+            last,
+            began: recorder.times.moment(last),
             own: None,
             panic: None,
             told,
