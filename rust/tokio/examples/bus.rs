@@ -19,7 +19,7 @@ const CLIENTS: usize = 8;
 /// How many lines the audit has written when its disk gets slow, and how many lines come until it
 /// is done.
 const SLOW_AT: u64 = 5_000;
-const BEHIND: u64 = 10_000;
+const BEHIND: u64 = 6_000;
 
 /// How many lines the clients have sent.
 static SENT: AtomicU64 = AtomicU64::new(0);
@@ -74,16 +74,19 @@ async fn accept(listener: TcpListener, bus: broadcast::Sender<String>) {
 
 /// Writes each line to a disk, and returns how many it has written and lost.
 async fn audit(mut lines: broadcast::Receiver<String>) -> (u64, u64) {
-    let (mut written, mut lost) = (0, 0);
+    let (mut written, mut lost, mut gets_slow) = (0, 0, true);
     loop {
         match lines.recv().await {
             Ok(_) => written += 1,
             Err(RecvError::Lagged(count)) => lost += count,
             Err(RecvError::Closed) => return (written, lost),
         }
-        let until = SENT.load(Ordering::Relaxed) + BEHIND;
-        while written == SLOW_AT && SENT.load(Ordering::Relaxed) < until && !lines.is_closed() {
-            tokio::time::sleep(Duration::from_millis(5)).await;
+        if written == SLOW_AT && gets_slow {
+            gets_slow = false;
+            let until = SENT.load(Ordering::Relaxed) + BEHIND;
+            while SENT.load(Ordering::Relaxed) < until && !lines.is_closed() {
+                tokio::time::sleep(Duration::from_millis(5)).await;
+            }
         }
     }
 }
@@ -111,11 +114,11 @@ async fn client(to: SocketAddr, number: usize, until: Instant) -> std::io::Resul
     Ok(())
 }
 
-/// Runs the bus with its clients for this time, and dumps into this folder if somebody loses 5,000
+/// Runs the bus with its clients for this time, and dumps into this folder if somebody loses 3,000
 /// lines at once.
 pub async fn run(time: Duration, folder: &Path) -> std::io::Result<Served> {
-    let recorder = Recorder::flight(10_000);
-    recorder.dump_to(folder).when_lag(5_000).on_panic().keep(5);
+    let recorder = Recorder::flight(100_000);
+    recorder.dump_to(folder).when_lag(3_000).on_panic().keep(5);
     let _installed = recorder.install();
     let (bus, lines) = broadcast::channel(1_024);
     recorder

@@ -12,7 +12,7 @@ async fn the_dump_of_a_lag_names_receiver_send_and_places() {
     let folder = env::temp_dir().join(format!("bus-{}", process::id()));
     let served = bus::run(Duration::from_secs(3), &folder).await.unwrap();
     assert!(
-        served.lost >= 5_000 && served.lines > served.lost,
+        served.lost >= 3_000 && served.lines > served.lost,
         "{served:?}"
     );
     assert!(
@@ -26,7 +26,7 @@ async fn the_dump_of_a_lag_names_receiver_send_and_places() {
         let entry = walk.entry(place)?;
         entry
             .returned()
-            .filter(|lost| entry.reply() == "lagged" && *lost >= 5_000)
+            .filter(|lost| entry.reply() == "lagged" && *lost >= 3_000)
     });
     let names = fs::read_to_string(journal.with_extension("names")).unwrap();
     let reason = format!(
