@@ -1,9 +1,9 @@
 //! A flight recorder that runs long, and its dumps: `cargo bench --bench flight -- CASE NUMBER..`
 //!
-//! - `long CALLS CHANNELS LAST`: sends, receives, receivers that lag and that come and go. It prints
-//!   what a call takes in each tenth, and the memory.
-//! - `dump CHANNELS LAST`: dumps of channels with so many calls each, beside a service. It prints how
-//!   long each takes, and how long the service's calls take meanwhile.
+//! - `long CALLS CHANNELS LAST`: sends, receives, receivers that lag and that come and go. It
+//!   prints what a call takes in each tenth, and the memory.
+//! - `dump CHANNELS LAST`: dumps of channels with so many calls each, beside a service. It prints
+//!   how long each takes, and how long the service's calls take meanwhile.
 
 use std::fs::{self, read_to_string};
 use std::hint::black_box;

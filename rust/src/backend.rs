@@ -198,10 +198,11 @@ impl Recording {
     #[inline(never)]
     fn call_apart(&mut self, caller: Caller, call: impl FnOnce() -> ChanCall<u64>) -> Reply {
         let (actor, clock) = (caller.actor.number(), caller.clock);
-        Reply::of(&match &mut self.last {
-            Some(flight) => flight.call(actor, clock, call()),
-            None => self.all.call(actor, clock, call()),
-        })
+        // Apart, so that neither result is copied to where the other one is.
+        if let Some(flight) = &mut self.last {
+            return Reply::of(&flight.call(actor, clock, call()));
+        }
+        Reply::of(&self.all.call(actor, clock, call()))
     }
 }
 

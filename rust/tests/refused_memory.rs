@@ -196,6 +196,7 @@ fn a_handle_for_which_there_is_no_memory_is_not_created() {
 }
 
 #[test]
+#[cfg_attr(target_family = "wasm", ignore = "WebAssembly has no threads")]
 fn a_flight_recorder_that_finds_no_memory_loses_a_dump_and_no_call() {
     let folder = std::env::temp_dir().join(format!("no-memory-{}", std::process::id()));
     let mut requests = 0;

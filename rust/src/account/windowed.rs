@@ -52,7 +52,8 @@ fn a_loss_that_began_before_the_window_is_told_with_what_is_known() {
     assert_eq!((found.look, found.nothing.as_ref()), (101, None));
 }
 
-/// Names with a window of two channels, a broadcast `bus` and a watch `state`, and these other keys.
+/// Names with a window of two channels, a broadcast `bus` and a watch `state`, and these other
+/// keys.
 fn names(lead: u64, bus: &str, state: &str, others: &str) -> String {
     format!(
         r#"{{"version": 4, "channels": {{"0": "bus", "1": "state"}}, {others}

@@ -102,8 +102,8 @@ impl RecordedChannel {
         &self,
         state: &mut ChannelState,
         stamp: u64,
-        dump: impl FnOnce(&Arc<Shared>, &mut ChannelState) -> Option<DumpRequest>,
-    ) -> Option<DumpRequest> {
+        dump: impl FnOnce(&Arc<Shared>, &mut ChannelState) -> Option<Box<DumpRequest>>,
+    ) -> Option<Box<DumpRequest>> {
         state.last_calls.as_mut()?.note_time(stamp);
         dump(self.recorder.0.as_ref()?, state)
     }
@@ -195,13 +195,9 @@ impl<'a> LockedChannel<'a> {
         let reply = call(&mut state.core, caller);
         if !reply.leaves_entry() {
             let permit = self.permit.take();
-            return self.channel.end_unrecorded(
-                state,
-                permit,
-                (caller, self.called_at),
-                reply,
-                call,
-            );
+            return self
+                .channel
+                .end_unrecorded(state, permit, caller, reply, call);
         }
         if self.permit.is_held() {
             tell_made(self.permit.take(), state.is_recorded, text.as_deref());

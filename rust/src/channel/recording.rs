@@ -96,11 +96,11 @@ impl RecordedChannel {
         &self,
         state: &mut ChannelState,
         mut permit: Permit<'_>,
-        (caller, called_at): (Caller, CallSite),
+        caller: Caller,
         reply: Reply,
         call: impl Fn(&mut CoreChannel, Caller) -> Reply,
     ) -> Reply {
-        state.remove_location();
+        let called_at = state.remove_location();
         if reply != Reply::JournalFull {
             permit.would_wait();
             return reply.expect_made();

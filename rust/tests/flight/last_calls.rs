@@ -227,6 +227,7 @@ fn times_rise_with_the_stamps() {
 }
 
 #[test]
+#[cfg_attr(target_family = "wasm", ignore = "WebAssembly has no threads")]
 fn calls_of_several_threads_are_in_their_order() {
     let recorder = Recorder::flight(500);
     let _entered = recorder.enter();

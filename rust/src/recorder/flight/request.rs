@@ -6,7 +6,7 @@ use super::super::window_names::Why;
 use super::dump::Dump;
 use super::writing;
 use crate::channel::{ChannelState, KeptChannel};
-use crate::clock::wall;
+use crate::clock::{Moment, wall};
 use crate::events::values;
 use crate::handle::Kind;
 use crate::source::rw_law::NoMemory;
@@ -24,6 +24,9 @@ pub(crate) struct DumpRequest {
     pub(super) folder: PathBuf,
     pub(super) keep: usize,
     pub(super) why: Why,
+    /// The last stamp that a call of it has, and when that was.
+    pub(super) last: u64,
+    pub(super) began: Option<Moment>,
     /// The channel that it is about, with its calls.
     pub(super) own: Option<(Arc<Mutex<ChannelState>>, KeptChannel)>,
     pub(super) panic: Option<NotedPanic>,
@@ -59,7 +62,7 @@ impl Shared {
         state: &mut ChannelState,
         receiver: u32,
         lost: u64,
-    ) -> Option<DumpRequest> {
+    ) -> Option<Box<DumpRequest>> {
         let dumping = &self.flight.as_ref()?.dumping;
         if !dumping.are(|settings| settings.lag.is_some_and(|least| lost >= least)) {
             return None;
@@ -76,7 +79,7 @@ impl Shared {
         self: &Arc<Shared>,
         channel: &Arc<Mutex<ChannelState>>,
         state: &mut ChannelState,
-    ) -> Option<DumpRequest> {
+    ) -> Option<Box<DumpRequest>> {
         let (dumping, name) = (&self.flight.as_ref()?.dumping, state.name.clone()?);
         if !dumping.are(|settings| settings.closed.contains(&name)) {
             return None;
@@ -98,6 +101,7 @@ impl DumpRequest {
         };
         let (folder, keep) = flight.dumping.begin(trigger == "call")?;
         let (told, ended) = channel();
+        let last = recorder.last();
         let request = DumpRequest {
             recorder: Begun::new(recorder),
             folder,
@@ -107,6 +111,8 @@ impl DumpRequest {
                 reason,
                 at: wall(),
             },
+            last,
+            began: recorder.times.moment(last),
             own: None,
             panic: None,
             told,
@@ -120,7 +126,7 @@ impl DumpRequest {
         reason: String,
         recorder: &Arc<Shared>,
         (channel, state): (&Arc<Mutex<ChannelState>>, &mut ChannelState),
-    ) -> Option<DumpRequest> {
+    ) -> Option<Box<DumpRequest>> {
         let (mut request, _) = DumpRequest::new(recorder, trigger, reason).ok()?;
         match state.kept(recorder.times) {
             Ok(kept) => request.own = kept.map(|kept| (channel.clone(), kept)),
@@ -129,7 +135,7 @@ impl DumpRequest {
                 return None;
             }
         }
-        Some(request)
+        Some(Box::new(request))
     }
 
     /// Begins a dump that somebody asks for.

@@ -3,9 +3,12 @@
 
 use super::super::run::text_of;
 use super::super::test_run::PATIENCE;
+use super::super::window_names::raise_ending;
 use super::super::windows::Most;
 use super::files;
 use super::request::DumpRequest;
+use crate::clock::Moment;
+use crate::names::Names;
 use std::collections::TryReserveError;
 use std::io;
 use std::path::PathBuf;
@@ -16,6 +19,19 @@ fn no_memory(_: TryReserveError) -> io::Error {
 
 /// Writes a dump, and returns the path of its journal.
 pub(super) fn write(request: &mut DumpRequest) -> io::Result<PathBuf> {
+    let (journal, names) = made(request)?;
+    let mut json = String::new();
+    // What the names have of a call is shorter than what the journal has.
+    json.try_reserve(journal.len()).map_err(no_memory)?;
+    names.push_json(&mut json);
+    let path = request.folder.join(files::name(request.why.at));
+    let path = files::write(&path, &journal, &json)?;
+    files::keep(&request.folder, request.keep);
+    Ok(path)
+}
+
+/// Returns the journal and its names.
+fn made(request: &mut DumpRequest) -> io::Result<(String, Names)> {
     let recorder = &request.recorder.0;
     // A thread that panics may have locked a channel, and may wait for this one.
     let run = match &request.panic {
@@ -24,26 +40,23 @@ pub(super) fn write(request: &mut DumpRequest) -> io::Result<PathBuf> {
             .readable_run(PATIENCE)
             .ok_or_else(|| io::Error::other("the panicking thread has locked its recorder"))?,
     };
-    let copied = run.copied(request.own.take().and_then(|own| run.number_of(own)))?;
+    let own = request.own.take().and_then(|own| run.number_of(own));
+    let copied = run.copied(own, request.last)?;
     drop(run);
     let most = Most::of_dump(copied.channels.len(), copied.wanted);
-    let (run, mut names) = copied.into_run(request.why.clone(), most)?;
-    // The stamps of a flight recorder's calls are above those of leads, and so aren't raised.
+    let read = copied.into_run(request.why.clone(), most)?;
+    let (mut names, journal) = (read.names, text_of(&read.run)?);
     if let Some(panic) = &request.panic {
         panic.add_to(&mut names);
+        raise_ending(&mut names, read.raised);
     }
-    let journal = text_of(&run)?;
-    names
-        .times
-        .extend(recorder.times.moment(run.last_stamp(u64::MAX)));
-    names.fit_to(&run, &journal);
+    let began = request.began.map(|began| Moment {
+        stamp: began.stamp + read.raised,
+        ..began
+    });
+    names.times.extend(began);
+    names.times.sort_by_key(|moment| moment.stamp);
+    names.fit_to(&read.run, &journal);
     names.add_sources();
-    let name = files::name(request.why.at);
-    let mut json = String::new();
-    // What the names have of a call is shorter than what the journal has.
-    json.try_reserve(journal.len()).map_err(no_memory)?;
-    names.push_json(&mut json);
-    let path = files::write(&request.folder.join(name), &journal, &json)?;
-    files::keep(&request.folder, request.keep);
-    Ok(path)
+    Ok((journal, names))
 }
