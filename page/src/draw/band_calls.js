@@ -45,7 +45,7 @@ function drawSentValues(drawing) {
 function codeWidth({ run, frame }, place, row) {
   const actor = run.columns.actors[place];
   const width = run.actors.codes[actor].length * LETTER;
-  return actor !== row.lives[0].user && width + 2 * (LARGEST + CODE_GAP) <= frame.column ? width : 0;
+  return actor !== run.userOf(row.lives[0]) && width + 2 * (LARGEST + CODE_GAP) <= frame.column ? width : 0;
 }
 
 function drawCaller({ pen, run }, entry, x, y) {

@@ -243,7 +243,7 @@ export class Opener {
     const names = namesFor(walk.run, bytes, name);
     if (names === null) return;
     tell();
-    if (names.window) return this.renewWith(names, bytes, name);
+    if (names.window) return this.renewWith(bytes, name);
     walk.rename(names);
     openAccount(walk.run);
     byId("facts").replaceChildren(...factsOf(source, walk.run));
@@ -254,8 +254,10 @@ export class Opener {
   }
 
   // Opens the run again with the names of a window, since it begins elsewhere then.
-  renewWith(names, bytes, name) {
-    return this.ask({ ...this.page.source, names: bytes, namesFile: name });
+  renewWith(bytes, name) {
+    const source = { ...this.page.source, names: bytes, namesFile: name };
+    if (source.key !== OWN) this.keep(source);
+    return this.ask(source);
   }
 
   // Draws all again, such as after a change of the window's size.
