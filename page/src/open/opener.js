@@ -12,7 +12,7 @@ import { View, columnsThatFit, placesAtFirst } from "../draw/view.js";
 import { openAccount } from "../findings/answer.js";
 import { firstPlace } from "../run/account.js";
 import { LossTable } from "../findings/loss_table.js";
-import { pushRun, readAddress } from "../input/address.js";
+import { forgetPlace, pushRun, readAddress } from "../input/address.js";
 import { Walk } from "../input/walk.js";
 import { bindingsOf } from "../run/bindings.js";
 import { windowText } from "../run/lead.js";
@@ -243,7 +243,7 @@ export class Opener {
     const names = namesFor(walk.run, bytes, name);
     if (names === null) return;
     tell();
-    if (names.window) return this.renewWith(bytes, name);
+    if (names.window) return this.renewWith(names, bytes, name);
     walk.rename(names);
     openAccount(walk.run);
     byId("facts").replaceChildren(...factsOf(source, walk.run));
@@ -253,8 +253,9 @@ export class Opener {
     this.redraw();
   }
 
-  // Opens the run again with the names of a window, since it begins elsewhere then.
-  renewWith(bytes, name) {
+  // Opens the run again with the names of a window, since it begins elsewhere then: behind its lead, unless the place is there.
+  renewWith({ window }, bytes, name) {
+    if (this.page.walk.view.place <= window.lead) forgetPlace();
     const source = { ...this.page.source, names: bytes, namesFile: name };
     if (source.key !== OWN) this.keep(source);
     return this.ask(source);
