@@ -1,5 +1,5 @@
-//! Nanoseconds a call, recorded, with a flight recorder and with no recorder set, the cases those of
-//! tokio's own bench: `cargo bench -- CALLS REPEATS`.
+//! Nanoseconds a call, recorded, with a flight recorder and with no recorder set, the cases those
+//! of tokio's own bench: `cargo bench -- CALLS REPEATS`.
 
 use std::hint::black_box;
 use std::sync::Barrier;
@@ -197,6 +197,7 @@ struct Recorded {
     bytes: u64,
 }
 
+#[inline(never)]
 fn recorded(calls: u64, case: fn(u64) -> Timed) -> Recorded {
     let recorder = Recorder::new();
     let entered = recorder.enter();
@@ -217,13 +218,16 @@ fn recorded(calls: u64, case: fn(u64) -> Timed) -> Recorded {
 }
 
 /// Nanoseconds a call of a run of a case whose channels each keep their last calls.
+#[inline(never)]
 fn flight(calls: u64, case: fn(u64) -> Timed) -> f64 {
     let recorder = Recorder::flight(10_000);
     let _entered = recorder.enter();
-    unset(calls, case)
+    let (calls, took) = case(calls);
+    took.as_nanos() as f64 / calls as f64
 }
 
 /// Nanoseconds a call of a run of a case whose channels belong to no recorder.
+#[inline(never)]
 fn unset(calls: u64, case: fn(u64) -> Timed) -> f64 {
     let (calls, took) = case(calls);
     took.as_nanos() as f64 / calls as f64

@@ -1,9 +1,9 @@
 //! A flight recorder that runs long, and its dumps: `cargo bench --bench flight -- CASE NUMBER..`
 //!
-//! - `long CALLS CHANNELS LAST`: sends, receives, receivers that lag and that come and go. It prints
-//!   what a call takes in each tenth, and the memory.
-//! - `dump CHANNELS LAST`: dumps of channels whose last calls are all there, beside a service. It
-//!   prints how long each takes, and how long the service's calls take meanwhile.
+//! - `long CALLS CHANNELS LAST`: sends, receives, receivers that lag and that come and go. It
+//!   prints what a call takes in each tenth, and the memory.
+//! - `dump CHANNELS LAST`: dumps of channels with so many calls each, beside a service. It prints
+//!   how long each takes, and how long the service's calls take meanwhile.
 
 use std::fs::{self, read_to_string};
 use std::hint::black_box;
@@ -140,9 +140,8 @@ fn dump(channels: usize, last: usize, folder: &Path) {
     recorder.dump_to(folder).keep(1);
     let _entered = recorder.enter();
     let mut channels: Vec<Channel> = (0..channels).map(|_| broadcast::channel(1024)).collect();
-    // As many as a channel keeps at most.
     for (tx, rx) in &mut channels {
-        for value in 0..last as u64 {
+        for value in 0..last as u64 / 2 {
             tx.send(value).unwrap();
             rx.try_recv().unwrap();
         }

@@ -12,6 +12,7 @@ mod machine;
 mod made_handles;
 mod numbers;
 mod receivers;
+mod recording;
 mod registry;
 mod state;
 

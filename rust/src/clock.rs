@@ -35,8 +35,8 @@ impl Times {
     }
 }
 
-/// Returns the milliseconds since 1970, if there is a clock. WebAssembly without an operating system
-/// has none, and would panic.
+/// Returns the milliseconds since 1970, if there is a clock. WebAssembly without an operating
+/// system has none, and would panic.
 pub(crate) fn wall() -> Option<u64> {
     if cfg!(all(target_family = "wasm", target_os = "unknown")) {
         return None;

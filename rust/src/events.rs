@@ -128,14 +128,14 @@ pub(crate) struct Event(Option<Box<Told>>);
 struct Told {
     event: Option<ToldEvent>,
     held: Option<HeldTexts>,
-    dump: Option<DumpRequest>,
+    dump: Option<Box<DumpRequest>>,
 }
 
 impl Event {
     /// A lag on a channel of this recorder.
     pub(crate) fn lag(
         recorder: &RecordedBy,
-        dump: Option<DumpRequest>,
+        dump: Option<Box<DumpRequest>>,
         lag: impl FnOnce() -> Lag,
     ) -> Event {
         let find = |hooks: &Hooks| lock(&hooks.lag).clone();
@@ -145,7 +145,7 @@ impl Event {
     /// The drop of the last sender of a channel of this recorder.
     pub(crate) fn close(
         recorder: &RecordedBy,
-        dump: Option<DumpRequest>,
+        dump: Option<Box<DumpRequest>>,
         close: impl FnOnce() -> Close,
     ) -> Event {
         let find = |hooks: &Hooks| lock(&hooks.close).clone();
@@ -154,7 +154,7 @@ impl Event {
 
     fn of<E: ?Sized>(
         recorder: &RecordedBy,
-        dump: Option<DumpRequest>,
+        dump: Option<Box<DumpRequest>>,
         find: impl Fn(&Hooks) -> Option<Arc<E>>,
         told: impl FnOnce(Arc<E>) -> ToldEvent,
     ) -> Event {

@@ -84,6 +84,7 @@ pub mod explore {}
 /// [`Recorder::snapshot`]: crate::Recorder::snapshot
 /// [`Recorder::off`]: crate::Recorder::off
 /// [`ChannelSnapshot::of`]: crate::ChannelSnapshot::of
+/// [`guide::flight`]: crate::guide::flight
 pub mod service {}
 
 #[doc = include_str!("guide/flight.md")]

@@ -265,19 +265,37 @@ fn what_was_not_recorded_is_in_the_names() {
 }
 
 #[test]
-fn that_recording_ended_is_in_the_names() {
+fn past_the_limit_the_last_calls_are_kept_and_a_panic_is_behind_them() {
     if is_part() {
-        let _recorder = Recorder::for_test("ended");
+        let _recorder = Recorder::for_test("past the limit");
+        let (state, _rx) = watch::channel(0);
         let (orders, _audit) = broadcast::channel(1);
+        state.send(1).unwrap();
         (0..1_048_577).for_each(|id| drop(orders.send(id)));
         panic!("the test fails");
     }
-    let (succeeds, _, folder) = played("that_recording_ended_is_in_the_names");
-    assert!(!succeeds);
-    let left = Left::read(&folder.0, "ended");
+    let (succeeds, said, folder) =
+        played("past_the_limit_the_last_calls_are_kept_and_a_panic_is_behind_them");
+    assert!(!succeeds && !said.contains("replay: "), "{said}");
+    let left = Left::read(&folder.0, "past the limit");
+    assert_eq!(member(&left.names, "unrecorded"), "");
+    assert!(member(&left.names, "window").starts_with("{\"trigger\": \"limit\", "));
+    let mut lines = left.journal.lines();
+    let last = lines.find(|line| line.ends_with(" send 0 1048576 = sent 1"));
+    let stamp = last.unwrap().split(' ').next().unwrap();
+    let since = format!("\"since\": {stamp}}}");
+    assert!(member(&left.names, "panics").contains(&since), "{since}");
+}
+
+#[test]
+fn that_recording_ended_is_in_the_names() {
+    let recorder = Recorder::new();
+    let _entered = recorder.enter();
+    let (orders, _audit) = broadcast::channel(1);
+    (0..1_048_577).for_each(|id| drop(orders.send(id)));
+    let names = recorder.names();
     assert_eq!(
-        member(&left.names, "unrecorded"),
+        member(&names, "unrecorded"),
         r#"{"channels": 0, "left": 0, "calls": true, "handles": 0, "locked": 0}"#
     );
-    assert!(member(&left.names, "panics").contains("\"since\": 1048576}"));
 }

@@ -43,6 +43,16 @@ fn main() {
             service.spawn(move || serve(&of_service)).unwrap().join().unwrap()
         }
         "main" => serve(&recorder),
+        "a thread panics" => {
+            let (_orders, mut mailer) = broadcast::channel::<u64>(16);
+            let mailing = thread::Builder::new().name("mailer".into());
+            let mailing = mailing.spawn(move || {
+                let _ = mailer.try_recv();
+                panic!("no stamps");
+            });
+            mailing.unwrap().join().unwrap_err();
+            broadcast::error::TryRecvError::Empty
+        }
         _ => {
             let (_orders, _mailer) = broadcast::channel::<u64>(16);
             panic!("the till is open");
@@ -68,7 +78,7 @@ fn workspace() -> (Workspace, PathBuf) {
 
 /// Runs the service with these words, and what the shell is to set.
 fn run(workspace: &Workspace, set: &str, how: &str) -> Output {
-    let line = format!("cargo build -q && {set} target/debug/shop dumps {how}");
+    let line = format!("cargo build -q && {set} target/debug/shop dumps '{how}'");
     workspace
         .shell(&line)
         .env("CARGO_TARGET_DIR", "target")
@@ -136,6 +146,26 @@ fn a_service_that_gets_no_thread_says_so_and_goes_on() {
     let said = "yovanelum: a dump isn't written: no thread for it: ";
     assert_eq!(printed(&run).matches(said).count(), 1, "{}", printed(&run));
     assert!(!dumps.exists());
+}
+
+#[test]
+fn a_panic_of_a_thread_leaves_a_dump() {
+    let _turn = in_turn();
+    let (workspace, dumps) = workspace();
+    let run = run(&workspace, "", "a thread panics");
+    assert!(run.status.success(), "{}", printed(&run));
+    let names = fs::read_to_string(journal(&dumps).with_extension("names")).unwrap();
+    let window = member(&names, "window");
+    assert!(
+        window.contains("\"trigger\": \"panic\", \"reason\": \"mailer panicked at src/main.rs:"),
+        "{window}"
+    );
+    let panics = member(&names, "panics");
+    assert!(
+        panics.starts_with("[{\"text\": \"no stamps\", "),
+        "{panics}"
+    );
+    assert!(panics.contains("\"actor\": 0"), "{panics}");
 }
 
 #[test]

@@ -1,3 +1,16 @@
 pub mod CutCalls
 pub mod Recordings
 pub mod Sends
+pub mod Dozed
+pub mod Making
+pub mod Renumbered
+pub mod Tracking
+pub mod Asking
+pub mod Entries
+pub mod Retaken
+pub mod Alike
+pub mod Skipping
+pub mod Dozers
+pub mod Numbered
+pub mod Played
+pub mod Stamps

@@ -1,6 +1,12 @@
 pub mod Calls
 pub mod Cuts
 pub mod Findings
+pub mod Flights
+pub mod Goals
+pub mod Kept
+pub mod Leading
+pub mod Playing
 pub mod Questions
 pub mod Recordings
 pub mod RunCalls
+pub mod Windows

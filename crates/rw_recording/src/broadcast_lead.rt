@@ -1,5 +1,7 @@
 //! The lead of a broadcast: calls that lead a new channel to what another is like.
 
+ghost use Rattle.std.specs.Prelude.{◌≡◌};
+
 use crate::faults::WindowFault;
 use crate::leading::Leading;
 use rw_broadcast::{BCall, Broadcast};
@@ -18,15 +20,13 @@ struct Standing {
 
 impl Standing {
     /// Returns the number by which receivers are sorted: first by position, then by handle.
-    fn order(&self) -> u128
-    {
+    fn order(&self) -> u128 {
         u128::from(self.position) * 4_294_967_296 + u128::from(self.handle)
     }
 }
 
 /// Returns the live receivers, by their positions.
-fn standing(alloc: Global, goal: &Broadcast<u64>) -> Result<Vec<Standing>, NoMemory>
-{
+fn receivers_of(alloc: Global, goal: &Broadcast<u64>) -> Result<Vec<Standing>, NoMemory> {
     let mut receivers = Vec::new(alloc);
     for handle in 0..goal.made() {
         if let Some(position) = goal.position(handle) {
@@ -38,14 +38,12 @@ fn standing(alloc: Global, goal: &Broadcast<u64>) -> Result<Vec<Standing>, NoMem
 }
 
 /// Returns the position of the oldest retained value.
-fn oldest(goal: &Broadcast<u64>) -> u64
-{
+fn oldest(goal: &Broadcast<u64>) -> u64 {
     goal.sent().saturating_sub(goal.capacity())
 }
 
 /// Returns the position from which values are sent: the least of the oldest retained one's and the receivers'.
-fn first_position(goal: &Broadcast<u64>, receivers: &[Standing]) -> u64
-{
+fn first_position(goal: &Broadcast<u64>, receivers: &[Standing]) -> u64 {
     match receivers.first() {
         Some(receiver) => oldest(goal).min(receiver.position),
         None => oldest(goal),
@@ -53,8 +51,7 @@ fn first_position(goal: &Broadcast<u64>, receivers: &[Standing]) -> u64
 }
 
 /// Returns the value of a position. That of an evicted one isn't known: it is 0.
-fn value_at(goal: &Broadcast<u64>, position: u64) -> u64
-{
+fn value_at(goal: &Broadcast<u64>, position: u64) -> u64 {
     match position.checked_sub(oldest(goal)) {
         Some(i) => goal.window(i).unwrap_or(0),
         None => 0,
@@ -68,6 +65,7 @@ fn send_all(
     first: u64,
     until: u64,
 ) -> Result<(), WindowFault>
+    ensures { leading.new ≡ leading.old }
 {
     for position in first..until {
         let _reply = leading.make(ChanCall::B(BCall::Send(0, value_at(goal, position))))?;
@@ -83,6 +81,7 @@ fn make_receivers(
     receivers: &[Standing],
     first: u64,
 ) -> Result<(), WindowFault>
+    ensures { leading.new ≡ leading.old }
 {
     let mut next = first;
     for (i, receiver) in receivers.iter().enumerate() {
@@ -99,6 +98,7 @@ fn make_receivers(
 
 /// Makes each sender and weak sender. Sender 0 stands for the first sender. Returns whether there is one.
 fn make_senders(leading: &mut Leading, goal: &Broadcast<u64>) -> Result<bool, WindowFault>
+    ensures { leading.new ≡ leading.old }
 {
     let mut has_sender = false;
     for handle in 0..goal.made() {
@@ -119,14 +119,15 @@ fn make_senders(leading: &mut Leading, goal: &Broadcast<u64>) -> Result<bool, Wi
 }
 
 /// Leads a new channel to what the other is like: sends from the first position that matters, makes the handles, and drops those two of
-/// the opening that stand for none. Returns the first position.
+/// the opening that stand for none.
 pub(crate) fn lead_broadcast(
     alloc: Global,
     leading: &mut Leading,
     goal: &Broadcast<u64>,
-) -> Result<u64, WindowFault>
+) -> Result<(), WindowFault>
+    ensures { leading.new ≡ leading.old }
 {
-    let receivers = standing(alloc, goal)?;
+    let receivers = receivers_of(alloc, goal)?;
     let first = first_position(goal, &receivers);
     if goal.sent().saturating_sub(first) > MOST_ENTRIES as u64 {
         return Err(WindowFault::TooLong);
@@ -143,5 +144,5 @@ pub(crate) fn lead_broadcast(
     if !has_sender {
         let _reply = leading.make(ChanCall::B(BCall::DropHandle(0)))?;
     }
-    Ok(first)
+    Ok(())
 }

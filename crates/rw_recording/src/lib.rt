@@ -28,7 +28,6 @@ pub use kept::Kept;
 pub use lead::{Dozing, Lead};
 pub use recording::Recording;
 pub use run_reader::RunReader;
-pub use window::Window;
 pub use rw_broadcast::{BCall, BReply};
 pub use rw_findings::{
     BroadcastCounts, Closing, Counts, LateReader, Loss, LossEnd, Totals, WatchCounts,
@@ -39,3 +38,4 @@ pub use rw_law::{Entry, NoMemory};
 pub use rw_text::TextFault;
 pub use rw_watch::{WCall, WReply};
 pub use rw_world::{ChanCall, ChanReply, OpenFault, RowCall, Spec, World};
+pub use window::Window;

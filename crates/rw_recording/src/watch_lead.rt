@@ -1,5 +1,7 @@
 //! The lead of a watch: calls that lead a new channel to what another is like.
 
+ghost use Rattle.std.specs.Prelude.{◌≡◌};
+
 use crate::faults::WindowFault;
 use crate::leading::Leading;
 use rw_handles::Kind;
@@ -14,6 +16,7 @@ fn make_receivers(
     seen: bool,
     has_first: bool,
 ) -> Result<bool, WindowFault>
+    ensures { leading.new ≡ leading.old }
 {
     let mut has_any = false;
     for handle in 0..goal.made() {
@@ -31,6 +34,7 @@ fn make_receivers(
 
 /// Makes each sender. Sender 0 stands for the first. Returns whether there is one.
 fn make_senders(leading: &mut Leading, goal: &Watch<u64>) -> Result<bool, WindowFault>
+    ensures { leading.new ≡ leading.old }
 {
     let mut has_sender = false;
     for handle in 0..goal.made() {
@@ -49,6 +53,7 @@ fn make_senders(leading: &mut Leading, goal: &Watch<u64>) -> Result<bool, Window
 /// Leads a new channel to what the other is like: makes the receivers that haven't seen the value, writes it, makes those that have,
 /// and the senders, and drops those two handles of the opening that stand for none.
 pub(crate) fn lead_watch(leading: &mut Leading, goal: &Watch<u64>) -> Result<(), WindowFault>
+    ensures { leading.new ≡ leading.old }
 {
     let has_unseen = make_receivers(leading, goal, false, true)?;
     let _reply = leading.make(ChanCall::W(WCall::SendReplace(0, goal.value())))?;

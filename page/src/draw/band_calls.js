@@ -90,7 +90,7 @@ function drawFar({ pen, frame, palette }, place, row) {
 /** @param {Drawing} drawing */
 function eachCall({ run, view, band }, show, { isBack = false } = {}) {
   const { channels, handles, marks } = run.columns;
-  const first = Math.max(1, view.from);
+  const first = Math.max((view.least ?? 0) + 1, view.from);
   const last = Math.min(view.to, run.lastPlace);
   for (let i = 0; i <= last - first; i++) {
     const place = isBack ? last - i : first + i;

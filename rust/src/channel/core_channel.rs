@@ -72,7 +72,7 @@ impl CoreChannel {
     pub(crate) fn fly(&mut self, chunk: usize) -> Result<(), NoMemory> {
         let core = Recording::open_flight(self.first.core.spec(), chunk);
         self.first.core = core.map_err(|_| NoMemory)?;
-        self.first.look_when_full();
+        self.first.look_seldom(handles_of(chunk));
         Ok(())
     }
 
@@ -80,20 +80,22 @@ impl CoreChannel {
     /// has changed.
     pub(crate) fn keep_last(&mut self, chunk: usize) -> Result<(), NoMemory> {
         self.first.core.keep_last(chunk)?;
-        self.first.look_when_full();
+        self.first.look_seldom(handles_of(chunk));
         Ok(())
     }
 
     /// Takes the dropped handles out of the table of a channel that keeps its last calls, if they
-    /// are many. These calls are no longer kept then. Returns the numbers that the others had, or
-    /// `None` if nothing has changed.
+    /// are many, and sets when it is looked next. The calls are no longer kept then. Returns the
+    /// numbers that the others had, or `None` if nothing was taken out.
     pub(crate) fn renumber_last(&mut self) -> Option<CoreVec<u32>> {
-        if !self.further.is_empty() || !self.first.has_many_dropped() {
-            return None;
-        }
-        let before = self.renumber(0)?;
-        self.first.look_when_full();
-        Some(before)
+        let is_alone = self.further.is_empty();
+        let before = if is_alone && self.first.has_many_dropped() {
+            self.renumber(0)
+        } else {
+            None
+        };
+        self.first.look_later();
+        before
     }
 
     /// Returns the number of a handle in the table of the machine that has the journal.
@@ -276,6 +278,13 @@ impl CoreChannel {
         }
         reply
     }
+}
+
+/// How many handles a channel makes before its table is looked at, where this many calls are kept:
+/// so few that the table is small, and so many that the calls are seldom lost with them.
+fn handles_of(chunk: usize) -> u32 {
+    const LEAST: usize = 16_384;
+    (2 * chunk).clamp(LEAST, MOST_HANDLES as usize) as u32
 }
 
 /// Returns the machine with this number.

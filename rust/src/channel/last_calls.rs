@@ -149,12 +149,13 @@ impl LastCalls {
         self.newer.moments.extend(self.times.moment(stamp));
     }
 
-    /// Removes the call that was added last, since it wasn't made.
-    pub(super) fn remove_last(&mut self) {
-        self.newer.sites.pop();
+    /// Removes the call that was added last, since it wasn't made. Returns where it was to be.
+    pub(super) fn remove_last(&mut self) -> CallSite {
+        let site = self.newer.sites.pop().flatten();
         if self.newer.sites.len() % CALLS_BETWEEN_TIMES == 0 {
             self.newer.moments.pop();
         }
+        site
     }
 
     /// Drops the older chunk, since the newer one is full.

@@ -63,9 +63,9 @@ impl CallSites {
         block
     }
 
-    /// Removes the call site that was added last.
-    pub(crate) fn pop(&mut self) {
-        self.last.pop();
+    /// Removes the call site that was added last, and returns it.
+    pub(crate) fn pop(&mut self) -> CallSite {
+        self.last.pop().flatten()
     }
 
     pub(crate) fn iter(&self) -> impl Iterator<Item = &CallSite> {

@@ -49,6 +49,8 @@ pub(super) struct Machine {
     made: u32,
     // When it has made as many, it is looked whether many of them are dropped.
     look_at: u32,
+    // It isn't looked sooner, where the last calls alone are kept.
+    least_look: u32,
     // The channel's number of each handle, by the number here, once the two may differ. A handle
     // that is nobody's has none.
     numbers: Vec<u32>,
@@ -74,6 +76,7 @@ impl Machine {
             most,
             made: 2,
             look_at: most,
+            least_look: 0,
             numbers: Vec::new(),
             has_early: true,
             sender: None,
@@ -103,6 +106,7 @@ impl Machine {
             most,
             made,
             look_at: most,
+            least_look: 0,
             numbers: vec![NO_NUMBER; made as usize],
             has_early: false,
             sender,
@@ -179,11 +183,20 @@ impl Machine {
         self.has_room()
     }
 
-    /// Keeps its last calls alone. It is looked for dropped handles only when it has made nearly all
-    /// that it can: the lead of a journal may need two.
-    pub(super) fn look_when_full(&mut self) {
+    /// Says that the last calls of the channel are kept alone. It is looked for dropped handles
+    /// when this many handles were made, and not much sooner: the calls before are no longer kept
+    /// then.
+    pub(super) fn look_seldom(&mut self, handles: u32) {
+        // The lead of a journal may need two.
         self.most = self.most.min(MOST_HANDLES - 2);
-        self.look_at = self.most;
+        self.least_look = handles;
+        self.look_later();
+    }
+
+    /// Sets when it is looked next for dropped handles: when it has made twice as many.
+    pub(super) fn look_later(&mut self) {
+        let twice = 2 * self.made;
+        self.look_at = twice.max(self.least_look).min(self.most);
     }
 
     /// Whether so many handles are dropped that a renumbering takes no longer than it took to make

@@ -121,12 +121,12 @@ impl ChannelState {
         }
     }
 
-    /// Removes what was stored for a call that then wasn't recorded.
-    pub(super) fn remove_location(&mut self) {
+    /// Removes what was stored for a call that then wasn't recorded. Returns where it was made.
+    pub(super) fn remove_location(&mut self) -> CallSite {
         if self.keeps_all {
-            self.locations.of_calls.pop();
-        } else if let Some(last) = &mut self.last_calls {
-            last.remove_last();
+            self.locations.of_calls.pop()
+        } else {
+            self.last_calls.as_mut()?.remove_last()
         }
     }
 
@@ -261,18 +261,17 @@ impl ChannelState {
         }
     }
 
-    /// Makes room for a further handle in a channel that keeps its last calls, if many of its
-    /// handles are dropped. The calls before are no longer kept then, since they have the handles'
-    /// previous numbers. Returns whether there is room.
+    /// Makes room for a further handle in a channel that keeps its last calls: if many of its
+    /// handles are dropped, they are taken out. The calls before are no longer kept then, since
+    /// they have the handles' previous numbers. Returns whether there is room.
     pub(super) fn make_room_for_handles(&mut self) -> bool {
         let Some(last) = &mut self.last_calls else {
             return false;
         };
-        let before = self.core.renumber_last();
-        before.is_some_and(|before| {
+        if let Some(before) = self.core.renumber_last() {
             last.begin_again(&before);
-            !self.core.has_named_all()
-        })
+        }
+        !self.core.has_named_all()
     }
 
     /// Whether the channel is recorded, and has created as many handles as a journal names.

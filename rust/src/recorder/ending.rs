@@ -95,17 +95,21 @@ impl TestRun {
         let call = call.unwrap_or(report.call());
         let (look, more) = match write(&path, &journal, &names, call) {
             Ok((path, look)) => {
-                let replay = match names.window {
-                    // Nobody makes the calls of a lead.
-                    Some(_) => String::new(),
-                    None => replay_line::of(&path, self),
-                };
-                (Some(look), replay + &compare_line(&path, recorder))
+                let lines = self.replay_line(&path, &names) + &compare_line(&path, recorder);
+                (Some(look), lines)
             }
             Err(error) => (None, not_written(&path, &error)),
         };
         let has_colours = report::has_colours(&io::stderr());
         format!("{}{more}", report.text(look, has_colours))
+    }
+
+    /// Returns the line that says how to make the calls again. Nobody can make those of a lead.
+    fn replay_line(&self, path: &Path, names: &Names) -> String {
+        match names.window {
+            Some(_) => String::new(),
+            None => replay_line::of(path, self),
+        }
     }
 
     /// Says that nothing was recorded, unless others do: the end of a replay, and the session of

@@ -38,8 +38,8 @@ impl Flight {
 }
 
 impl Recorder {
-    /// Creates a flight recorder: one that keeps the last calls of each channel, in memory that does
-    /// not grow.
+    /// Creates a flight recorder: one that keeps the last calls of each channel, in memory that
+    /// does not grow.
     ///
     /// It is for a service that runs for weeks. Of each channel it keeps at least
     /// `calls_per_channel` calls, and at most twice as many, or all while there are fewer. A call
@@ -50,10 +50,11 @@ impl Recorder {
     /// At least 1 call is kept, and at most 524,288 to 1,048,576 are. 10,000 calls are right for
     /// most services.
     ///
-    /// Of the [limits](Recorder#limits), the one of entries does not end its recording. It gives 63
-    /// numbers to threads and tasks. When a channel has created 65,536 senders and receivers, those
-    /// that are dropped are forgotten, and with them the calls that are kept. If nearly all of them
-    /// are alive, the recording of that channel ends.
+    /// Of the [limits](Recorder#limits), the one of entries does not end its recording. It gives
+    /// 63 numbers to threads and tasks. When a channel has created 16,384 senders and receivers,
+    /// or twice `calls_per_channel`, those that are dropped are forgotten, and with them the calls
+    /// that are kept. If it has created 65,534 and nearly all of them are alive, its recording
+    /// ends.
     ///
     /// # Examples
     ///

@@ -31,8 +31,8 @@ impl Recorder {
     /// test passes, and there is no report.
     ///
     /// When a channel has made as many calls as a journal takes, 1,048,576, the last calls of each
-    /// channel are kept from then on, at least 524,288, so that what ends the test is in the journal.
-    /// Such a run can't be replayed.
+    /// channel are kept from then on, at least 524,288, so that what ends the test is in the
+    /// journal. Such a run can't be replayed.
     ///
     /// Else nothing is written or printed if the test passes, or if the result was created while
     /// its thread was panicking already. Nor is it if the process ends otherwise, as by
@@ -65,7 +65,6 @@ impl Recorder {
     #[must_use = "dropped at once, it records nothing"]
     pub fn for_test(name: &str) -> ForTest {
         let recorder = Recorder::of_test(name);
-        recorder.0.go_on_past_limit();
         ForTest {
             saved: recorder.save_on_panic(name),
             _entered: recorder.enter(),
@@ -102,6 +101,7 @@ impl Recorder {
         panic_hook::install();
         self.say_if_not_replayed(name);
         explore::begin(name);
+        self.0.go_on_past_limit();
         let test = TestRun::start(&self.0, name);
         let (recorder, of_run) = (Arc::downgrade(&self.0), Arc::downgrade(&test));
         explore::watch(recorder, move || {

@@ -98,7 +98,7 @@ impl RunSoFar<'_> {
     /// Returns what the channels have recorded up to now.
     fn recorded(&self) -> io::Result<run::Run> {
         if self.shared.keeps_last() {
-            return self.window().map(|(run, _)| run);
+            return self.window().map(|read| read.run);
         }
         // Each call gets its number under its channel's lock. So once `cut` has locked a channel,
         // its calls before the cut are recorded.
@@ -198,7 +198,7 @@ impl RunSoFar<'_> {
     }
 
     /// Returns the run of the last calls, and its names.
-    fn window(&self) -> io::Result<(run::Run, Names)> {
+    fn window(&self) -> io::Result<Read> {
         let copied = self.copied(None)?;
         let (why, most) = match &self.shared.flight {
             Some(_) => (Why::asked(), Most::of_dump(copied.channels.len(), None)),
@@ -229,10 +229,15 @@ impl RunSoFar<'_> {
     /// Returns the recorded run, its journal text, and the names that belong to it. They are also
     /// about the test, if it is one of a test.
     pub(super) fn saved(&self, test: Option<&TestRun>) -> io::Result<Saved> {
-        let (run, mut names) = self.read()?;
+        let Read {
+            run,
+            mut names,
+            raised,
+        } = self.read()?;
         let journal = text_of(&run)?;
         if let Some(test) = test {
             test.add_to(&mut names);
+            window_names::raise_ending(&mut names, raised);
         }
         names.fit_to(&run, &journal);
         names.add_sources();
@@ -244,17 +249,20 @@ impl RunSoFar<'_> {
     }
 
     /// Returns the recorded run, and names that may be of calls after it too.
-    fn read(&self) -> io::Result<(run::Run, Names)> {
+    fn read(&self) -> io::Result<Read> {
         if self.shared.keeps_last() {
             return self.window();
         }
-        let run = self.recorded()?;
-        Ok((run, self.names()))
+        Ok(Read {
+            run: self.recorded()?,
+            names: self.names(),
+            raised: 0,
+        })
     }
 
     /// Returns the recorded run with its names, without the texts of its files.
     pub(crate) fn with_names(&self) -> io::Result<(run::Run, Names)> {
-        let (run, mut names) = self.read()?;
+        let Read { run, mut names, .. } = self.read()?;
         names.fit_to(&run, "");
         Ok((run, names))
     }
@@ -279,7 +287,7 @@ pub(super) struct Copied {
 
 impl Copied {
     /// Makes a run of them, and its names. No channel is locked.
-    pub(super) fn into_run(mut self, why: Why, most: Most) -> io::Result<(run::Run, Names)> {
+    pub(super) fn into_run(mut self, why: Why, most: Most) -> io::Result<Read> {
         let (mut calls, mut noted) = (Vec::new(), Vec::new());
         for channel in self.channels {
             calls.push(Calls {
@@ -292,8 +300,20 @@ impl Copied {
         let channels = (&*noted, &made);
         window_names::add(&mut self.names, &mut self.indexes, channels, why);
         self.names.locations = self.indexes.locations;
-        Ok((made.run, self.names))
+        Ok(Read {
+            run: made.run,
+            names: self.names,
+            raised: made.raised,
+        })
     }
+}
+
+/// A run and its names.
+pub(super) struct Read {
+    pub(super) run: run::Run,
+    pub(super) names: Names,
+    /// By how much the stamps of calls are raised.
+    pub(super) raised: u64,
 }
 
 /// A recorded run, as its files have it.

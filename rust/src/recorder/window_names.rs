@@ -140,15 +140,22 @@ fn times(channels: &[NotedChannel]) -> Vec<Moment> {
 /// Raises the stamps of the names as those of the calls are.
 fn raise(names: &mut Names, made: &Windows) {
     let waits = names.waiting.iter_mut().map(|wait| &mut wait.since);
-    let panics = names.ending.panics.iter_mut();
-    let panics = panics.map(|panic| &mut panic.since);
-    let returned = names.ending.returned.iter_mut().map(|it| &mut it.since);
     let times = names.times.iter_mut().map(|moment| &mut moment.stamp);
-    for stamp in waits.chain(panics).chain(returned).chain(times) {
+    for stamp in waits.chain(times) {
         *stamp = stamp.saturating_add(made.raised);
     }
     names.times.retain(|moment| moment.stamp <= made.last);
     names.waiting.sort_by_key(|wait| wait.since);
+}
+
+/// Raises the stamps of how a test ended by as much.
+pub(super) fn raise_ending(names: &mut Names, raised: u64) {
+    let panics = names.ending.panics.iter_mut();
+    let panics = panics.map(|panic| &mut panic.since);
+    let returned = names.ending.returned.iter_mut().map(|it| &mut it.since);
+    for since in panics.chain(returned) {
+        *since = since.saturating_add(raised);
+    }
 }
 
 /// Adds what is known of one channel.
@@ -245,7 +252,7 @@ impl Adding<'_> {
         ChannelWindow {
             lead: self.window.lead(),
             calls: self.channel.before(self.made.calls),
-            sent: (!self.channel.is_watch).then(|| self.made.sent),
+            sent: (!self.channel.is_watch).then_some(self.made.sent),
             handles: real
                 .map(|real| real.map(|real| handles.nth(real)))
                 .collect(),

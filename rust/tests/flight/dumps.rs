@@ -89,13 +89,12 @@ fn a_lag_calls_for_a_dump_if_it_is_great_enough() {
 }
 
 #[test]
-fn a_close_and_a_panic_call_for_dumps() {
+fn the_close_of_a_channel_with_that_name_calls_for_a_dump() {
     let folder = folder("flight-close");
     let recorder = Recorder::flight(10);
-    let dumps = recorder.dump_to(&folder).when_closed("config").on_panic();
-    dumps.at_most_every(Duration::ZERO);
-    let entered = recorder.enter();
-    let (config, server) = watch::channel(0);
+    recorder.dump_to(&folder).when_closed("config");
+    let _entered = recorder.enter();
+    let (config, _server) = watch::channel(0);
     let (other, _rx) = watch::channel(0);
     recorder.name(&config, "config").name(&other, "other");
     drop(other);
@@ -103,22 +102,9 @@ fn a_close_and_a_panic_call_for_dumps() {
     config.send(1).unwrap();
     drop(config);
     wait_for(&recorder, 1);
-    let panicked = thread::Builder::new().name("server".into()).spawn(move || {
-        let _ = server.has_changed();
-        panic!("no config");
-    });
-    assert!(panicked.unwrap().join().is_err());
-    wait_for(&recorder, 2);
-    let dumps = dumps_in(&folder);
-    assert_eq!(
-        [trigger(&dumps[0].1), trigger(&dumps[1].1)],
-        ["close", "panic"]
-    );
-    assert!(dumps[0].0.ends_with(" drop 0 = dropped\nend\n"));
-    let names = &dumps[1].1;
-    assert!(member(names, "window").contains("\"reason\": \"server panicked at "));
-    assert!(member(names, "panics").starts_with("[{\"text\": \"no config\", "));
-    drop(entered);
+    let (journal, names) = dumps_in(&folder).pop().unwrap();
+    assert_eq!(trigger(&names), "close");
+    assert!(journal.ends_with(" drop 0 = dropped\nend\n"));
     fs::remove_dir_all(folder).unwrap();
 }
 

@@ -3,6 +3,7 @@
 
 use super::support::named::{call_lines, member};
 use super::windows::{lead, texts, times, trigger, windows};
+use std::collections::BTreeMap;
 use std::thread;
 use yovanelum::debugger::Walk;
 use yovanelum::{Recorder, block_on, broadcast, named, watch};
@@ -49,15 +50,17 @@ fn a_short_run_has_no_lead() {
     assert!(!names.contains("before the window"));
 }
 
-#[test]
-fn names_and_texts_are_those_of_what_the_journal_has() {
-    let recorder = Recorder::flight(4);
-    let _entered = recorder.enter();
+/// Returns what an object of the names has of the first channel.
+fn of_first_channel(names: &str, key: &str) -> BTreeMap<u64, String> {
+    let object = member(names, key).trim_start_matches("{\"0\": ");
+    texts(object.trim_end_matches('}'))
+}
+
+/// A channel on which a hundred receivers came and went, and then a hundred values.
+fn busy(recorder: &Recorder) -> [broadcast::Receiver<u64>; 2] {
     let (prices, chart) = broadcast::channel(2);
-    recorder
-        .name(&prices, "prices")
-        .name(&chart, "chart")
-        .show(&prices, |price| format!("{price} EUR"));
+    let named = recorder.name(&prices, "prices").name(&chart, "chart");
+    named.show(&prices, |price| format!("{price} EUR"));
     for connection in 0..100 {
         recorder.name(&prices.subscribe(), &format!("connection {connection}"));
     }
@@ -68,43 +71,42 @@ fn names_and_texts_are_those_of_what_the_journal_has() {
         let _ = audit.try_recv();
     }
     recorder.name(&prices.subscribe(), "the last connection");
-    let (journal, names) = (recorder.journal().unwrap(), recorder.names());
-    let window = &windows(&names)[0];
-    // Of the 101 that were dropped, the journal has the last one.
-    let named = member(&names, "handles")
-        .trim_start_matches("{\"0\": ")
-        .trim_end_matches('}');
-    let named = texts(named);
+    [chart, audit]
+}
+
+#[test]
+fn names_are_those_of_handles_that_the_journal_has() {
+    let recorder = Recorder::flight(4);
+    let _entered = recorder.enter();
+    let _alive = busy(&recorder);
+    let names = recorder.names();
+    let (window, named) = (&windows(&names)[0], of_first_channel(&names, "handles"));
     let of = |name: &str| {
         let found = named.iter().find(|(_, named)| *named == name);
         window.handles[*found.unwrap().0 as usize]
     };
+    // Of the 101 that were dropped, the journal has the last one.
     assert_eq!(named.len(), 3);
-    assert_eq!(
-        [of("chart"), of("audit"), of("the last connection")],
-        [Some(1), Some(102), Some(103)]
-    );
+    let all = ["chart", "audit", "the last connection"].map(of);
+    assert_eq!(all, [Some(1), Some(102), Some(103)]);
+    let actors = texts(member(&names, "actors"));
+    assert_eq!(actors[&63], "before the window");
+}
+
+#[test]
+fn texts_are_those_of_values_that_the_journal_has() {
+    let recorder = Recorder::flight(8);
+    let _entered = recorder.enter();
+    let _alive = busy(&recorder);
+    let (journal, names) = (recorder.journal().unwrap(), recorder.names());
+    let values = of_first_channel(&names, "values");
+    let sends = journal.lines().filter(|line| !line.contains(" 63 0 "));
+    let mut sends = sends.filter(|line| line.contains(" send "));
+    let sent = sends.next().and_then(|line| line.split(' ').nth(5));
+    let first: u64 = sent.unwrap().parse().unwrap();
     // The channel retains two values before the window.
-    let values = member(&names, "values")
-        .trim_start_matches("{\"0\": ")
-        .trim_end_matches('}');
-    let values = texts(values);
-    let sends = journal
-        .lines()
-        .filter(|line| !line.contains(" 63 0 ") && line.contains(" send "));
-    let first: u64 = sends
-        .clone()
-        .next()
-        .unwrap()
-        .split(' ')
-        .nth(5)
-        .unwrap()
-        .parse()
-        .unwrap();
-    assert!(values.contains_key(&(first - 1)) && values.contains_key(&(first - 2)));
-    assert_eq!(values[&99], "99 EUR");
-    assert!(values.len() < 16, "{values:?}");
-    assert_eq!(texts(member(&names, "actors"))[&63], "before the window");
+    let wanted = (first - 2..100).map(|value| (value, format!("{value} EUR")));
+    assert!(wanted.eq(values), "{first}");
 }
 
 #[test]
@@ -225,6 +227,7 @@ fn times_rise_with_the_stamps() {
 }
 
 #[test]
+#[cfg_attr(target_family = "wasm", ignore = "WebAssembly has no threads")]
 fn calls_of_several_threads_are_in_their_order() {
     let recorder = Recorder::flight(500);
     let _entered = recorder.enter();

@@ -1,5 +1,7 @@
 //! Flight recorders: what they keep, and what their dumps say.
 
+// WebAssembly has no threads, and ends at the first panic.
+#[cfg(not(target_family = "wasm"))]
 mod dumps;
 mod last_calls;
 mod past_limit;

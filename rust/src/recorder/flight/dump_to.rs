@@ -90,9 +90,9 @@ impl DumpTo {
 
     /// Writes a dump when a thread of the process panics.
     ///
-    /// The first recorder of a process that does so sets a hook for panics, which calls the previous
-    /// hook after it. If the thread is the main one, or the process ends with the panic, the hook
-    /// waits for the dump, 5 seconds at most. What that thread has locked is left out.
+    /// The first recorder of a process that does so sets a hook for panics, which calls the
+    /// previous hook after it. If the thread is the main one, or the process ends with the panic,
+    /// the hook waits for the dump, 5 seconds at most. What that thread has locked is left out.
     ///
     /// # Examples
     ///

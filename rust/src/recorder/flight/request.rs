@@ -59,7 +59,7 @@ impl Shared {
         state: &mut ChannelState,
         receiver: u32,
         lost: u64,
-    ) -> Option<DumpRequest> {
+    ) -> Option<Box<DumpRequest>> {
         let dumping = &self.flight.as_ref()?.dumping;
         if !dumping.are(|settings| settings.lag.is_some_and(|least| lost >= least)) {
             return None;
@@ -76,7 +76,7 @@ impl Shared {
         self: &Arc<Shared>,
         channel: &Arc<Mutex<ChannelState>>,
         state: &mut ChannelState,
-    ) -> Option<DumpRequest> {
+    ) -> Option<Box<DumpRequest>> {
         let (dumping, name) = (&self.flight.as_ref()?.dumping, state.name.clone()?);
         if !dumping.are(|settings| settings.closed.contains(&name)) {
             return None;
@@ -120,7 +120,7 @@ impl DumpRequest {
         reason: String,
         recorder: &Arc<Shared>,
         (channel, state): (&Arc<Mutex<ChannelState>>, &mut ChannelState),
-    ) -> Option<DumpRequest> {
+    ) -> Option<Box<DumpRequest>> {
         let (mut request, _) = DumpRequest::new(recorder, trigger, reason).ok()?;
         match state.kept(recorder.times) {
             Ok(kept) => request.own = kept.map(|kept| (channel.clone(), kept)),
@@ -129,7 +129,7 @@ impl DumpRequest {
                 return None;
             }
         }
-        Some(request)
+        Some(Box::new(request))
     }
 
     /// Begins a dump that somebody asks for.

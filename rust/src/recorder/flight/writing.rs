@@ -1,8 +1,9 @@
 //! What the thread of a dump does: it copies the channels' last calls, makes a journal of them, and
 //! writes it.
 
-use super::super::run::text_of;
+use super::super::run::{Read, text_of};
 use super::super::test_run::PATIENCE;
+use super::super::window_names::raise_ending;
 use super::super::windows::Most;
 use super::files;
 use super::request::DumpRequest;
@@ -27,10 +28,14 @@ pub(super) fn write(request: &mut DumpRequest) -> io::Result<PathBuf> {
     let copied = run.copied(request.own.take().and_then(|own| run.number_of(own)))?;
     drop(run);
     let most = Most::of_dump(copied.channels.len(), copied.wanted);
-    let (run, mut names) = copied.into_run(request.why.clone(), most)?;
-    // The stamps of a flight recorder's calls are above those of leads, and so aren't raised.
+    let Read {
+        run,
+        mut names,
+        raised,
+    } = copied.into_run(request.why.clone(), most)?;
     if let Some(panic) = &request.panic {
         panic.add_to(&mut names);
+        raise_ending(&mut names, raised);
     }
     let journal = text_of(&run)?;
     names

@@ -2,6 +2,8 @@
 // From crates/rw_recording/src/broadcast_lead.rt, with its contracts as comments. //+
 use crate::shim::Vec; //+
 
+//~ ghost use Rattle.std.specs.Prelude.{◌≡◌};
+
 use crate::source::rw_recording::faults::WindowFault;
 use crate::source::rw_recording::leading::Leading;
 use crate::source::rw_broadcast::{BCall, Broadcast};
@@ -70,6 +72,7 @@ fn send_all(
     first: u64,
     until: u64,
 ) -> Result<(), WindowFault>
+//~     ensures { leading.new ≡ leading.old }
 {
     for position in first..until {
         let _reply = leading.make(ChanCall::B(BCall::Send(0, value_at(goal, position))))?;
@@ -85,6 +88,7 @@ fn make_receivers(
     receivers: &[Standing],
     first: u64,
 ) -> Result<(), WindowFault>
+//~     ensures { leading.new ≡ leading.old }
 {
     let mut next = first;
     for (i, receiver) in receivers.iter().enumerate() {
@@ -101,6 +105,7 @@ fn make_receivers(
 
 /// Makes each sender and weak sender. Sender 0 stands for the first sender. Returns whether there is one.
 fn make_senders(leading: &mut Leading, goal: &Broadcast<u64>) -> Result<bool, WindowFault>
+//~     ensures { leading.new ≡ leading.old }
 {
     let mut has_sender = false;
     for handle in 0..goal.made() {
@@ -121,12 +126,13 @@ fn make_senders(leading: &mut Leading, goal: &Broadcast<u64>) -> Result<bool, Wi
 }
 
 /// Leads a new channel to what the other is like: sends from the first position that matters, makes the handles, and drops those two of
-/// the opening that stand for none. Returns the first position.
+/// the opening that stand for none.
 pub(crate) fn lead_broadcast(
     alloc: Global,
     leading: &mut Leading,
     goal: &Broadcast<u64>,
-) -> Result<u64, WindowFault>
+) -> Result<(), WindowFault>
+//~     ensures { leading.new ≡ leading.old }
 {
     let receivers = standing(alloc, goal)?;
     let first = first_position(goal, &receivers);
@@ -145,5 +151,5 @@ pub(crate) fn lead_broadcast(
     if !has_sender {
         let _reply = leading.make(ChanCall::B(BCall::DropHandle(0)))?;
     }
-    Ok(first)
+    Ok(())
 }

@@ -1,9 +1,13 @@
 //! Channels whose calls aren't recorded: what the window of a channel needs of them.
 // From crates/rw_recording/src/channels.rt, with its contracts as comments. //+
 
+//~ ghost use Rattle.std.specs.Prelude.{◌≡◌, IfOk, OnOk, OnErr};
+//~ ghost use Rattle.rw_law.specs.Journal.{after_all};
+//~ ghost use Rattle.rw_world.specs.Machines.{of_chan};
+//~ ghost use Rattle.rw_recording.specs.Kept.{asks, entries_from, lag_in, sent_in};
+
 use crate::source::rw_recording::recording::RecordedCall;
 use crate::source::rw_broadcast::BCall;
-use crate::source::rw_handles::Kind;
 use crate::source::rw_journal::CallForm;
 use crate::source::rw_law::{MOST_WEIGHT, NoMemory, Reversible};
 use crate::source::rw_world::{Chan, ChanCall, ChanReply};
@@ -13,6 +17,9 @@ pub(crate) fn make(
     channel: &mut Chan<u64>,
     call: &ChanCall<u64>,
 ) -> Result<ChanReply<u64>, NoMemory>
+//~     ensures reply { IfOk result (λ reply. reply ≡ of_chan.reply_of (of_chan.shown channel.old) call.now) }
+//~     ensures shown { OnOk result (of_chan.shown channel.new ≡ of_chan.next (of_chan.shown channel.old) call.now) }
+//~     ensures same { OnErr result (of_chan.shown channel.new ≡ of_chan.shown channel.old) }
 {
     if channel.weight() >= MOST_WEIGHT {
         return Err(NoMemory);
@@ -23,25 +30,20 @@ pub(crate) fn make(
 }
 
 /// Makes recorded calls, one after another.
+//~ #[tactic(auto, using(crate::proofs::Entries::one_more_made))]
 pub(crate) fn make_all(channel: &mut Chan<u64>, calls: &[RecordedCall]) -> Result<(), NoMemory>
+//~     ensures { OnOk result (of_chan.shown channel.new ≡ after_all of_chan (of_chan.shown channel.old) (entries_from (of_chan.shown channel.old) calls.now)) }
 {
-    for noted in calls {
-        let _reply = make(channel, &noted.call.to_call())?;
+    for i in 0..calls.len() {
+        let call = calls[i].call.to_call();
+        let _reply = make(channel, &call)?;
     }
     Ok(())
 }
 
-/// Returns the kind of a handle, if it is alive.
-pub(crate) fn kind_of(channel: &Chan<u64>, handle: u32) -> Option<Kind>
-{
-    match channel {
-        Chan::Broadcast(machine) => machine.kind(handle),
-        Chan::Watch(machine) => machine.kind(handle),
-    }
-}
-
 /// Returns how many values were evicted before a live receiver of a broadcast had received them. It is 0 for any other handle.
 pub(crate) fn lag_of(channel: &Chan<u64>, handle: u32) -> u64
+//~     ensures { result ≡ lag_in (of_chan.shown channel.now) handle }
 {
     match channel {
         Chan::Broadcast(machine) => machine.lag(handle).unwrap_or(0),
@@ -51,6 +53,7 @@ pub(crate) fn lag_of(channel: &Chan<u64>, handle: u32) -> u64
 
 /// Returns how many values were sent on a broadcast. It is 0 for a watch.
 pub(crate) fn sent_on(channel: &Chan<u64>) -> u64
+//~     ensures { result ≡ sent_in (of_chan.shown channel.now) }
 {
     match channel {
         Chan::Broadcast(machine) => machine.sent(),
@@ -60,6 +63,7 @@ pub(crate) fn sent_on(channel: &Chan<u64>) -> u64
 
 /// Whether the reply tells where a receiver of a broadcast is.
 pub(crate) fn asks(call: &ChanCall<u64>) -> bool
+//~     ensures { result ≡ asks call.now }
 {
     matches!(
         call,

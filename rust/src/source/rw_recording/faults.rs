@@ -20,7 +20,7 @@ pub enum WindowFault {
     /// A kept call is by a handle that had been dropped before the window begins.
 //~     #[error("a call by a handle that was dropped before")]
     Dropped,
-    /// The lead doesn't lead to what the channel was like. It never happens, but no proof says so.
+    /// The lead doesn't lead to what the channel was like, as the comparison finds. No channel is known for which this happens.
 //~     #[error("the lead misses the channel")]
     Unlike,
 }

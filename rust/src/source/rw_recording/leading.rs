@@ -2,34 +2,40 @@
 // From crates/rw_recording/src/leading.rt, with its contracts as comments. //+
 use crate::shim::Vec; //+
 
-use crate::source::rw_recording::recording::Recording;
+//~ ghost use Rattle.std.specs.Prelude.{◌≡◌, ◌<◌, false, true, IfOk, OnErr};
+//~ ghost use Rattle.rw_law.specs.declared.limits.TheConstants.{MOST_ACTORS};
+//~ ghost use Rattle.rw_world.specs.Openings.{has_bad_capacity};
+//~ ghost use Rattle.rw_recording.specs.Leading.{AreBy};
+
 use crate::source::rw_recording::faults::WindowFault;
-use crate::source::rw_law::NoMemory;
+use crate::source::rw_recording::numbering::zeros;
+use crate::source::rw_recording::recording::Recording;
 use crate::source::rw_world::{ChanCall, ChanReply, Spec};
 use crate::shim::alloc::Global;
+//~ use std::marker::Model;
 
 /// A new channel whose calls are made by one actor, and the numbers that its handles have: `numbers[h]` is that of the handle which
 /// stands for handle h of another channel.
 //~ #[derive(Drop)]
 pub(crate) struct Leading {
-    pub recording: Recording,
-    pub actor: u32,
-    pub clock: u64,
-    pub numbers: Vec<u32>,
+    recording: Recording,
+    actor: u32,
+    clock: u64,
+    numbers: Vec<u32>,
 }
 
-/// Makes a list of zeros.
-fn zeros(alloc: Global, count: u32) -> Result<Vec<u32>, NoMemory>
-{
-    let mut numbers = Vec::with_capacity(alloc, count as usize)?;
-    for _ in 0..count {
-        numbers.push(0)?;
-    }
-    Ok(numbers)
-}
+//~ impl Model for Leading {
+//~     ghost use Rattle.rw_recording.specs.Leading.{Leading as Seen, IsLeading};
+//~
+//~     ghost Value = { Seen };
+//~
+//~     ghost view = { λ l. record { spec = l.recording.spec; actor = l.actor; clock = l.clock } };
+//~
+//~     ghost invariant = { λ l. IsLeading l.recording l.actor l.clock };
+//~ }
 
 impl Leading {
-    /// Opens a channel that stands for one of so many handles.
+    /// Opens a channel whose handles stand for so many.
     pub fn open(
         alloc: Global,
         spec: Spec<u64>,
@@ -37,6 +43,9 @@ impl Leading {
         clock: u64,
         handles: u32,
     ) -> Result<Leading, WindowFault>
+//~         requires actor { actor < MOST_ACTORS }
+//~         requires good { has_bad_capacity spec ≡ false }
+//~         ensures { IfOk result (λ leading. leading ≡ record { spec = spec; actor = actor; clock = clock }) }
     {
         let numbers = zeros(alloc, handles)?;
         match Recording::open(alloc, spec) {
@@ -52,6 +61,7 @@ impl Leading {
 
     /// Makes a call.
     pub fn make(&mut self, call: ChanCall<u64>) -> Result<ChanReply<u64>, WindowFault>
+//~         ensures { self.new ≡ self.old }
     {
         match self.recording.call(self.actor, self.clock, call) {
             Ok(reply) => Ok(reply),
@@ -61,19 +71,36 @@ impl Leading {
 
     /// Has the handle of this number stand for handle h of the other channel.
     pub fn stand(&mut self, h: u32, number: u32)
+//~         ensures { self.new ≡ self.old }
     {
-        if let Some(place) = self.numbers.get_mut(h as usize) {
-            *place = number;
+        if (h as usize) < self.numbers.len() {
+            self.numbers[h as usize] = number;
         }
     }
 
     /// Makes a call that creates a handle, which stands for handle h of the other channel.
     pub fn make_for(&mut self, h: u32, call: ChanCall<u64>) -> Result<(), WindowFault>
+//~         ensures { self.new ≡ self.old }
     {
         let reply = self.make(call)?;
         if let Some(number) = reply.new_handle() {
             self.stand(h, number);
         }
         Ok(())
+    }
+
+    /// Returns the recording of the calls, and the numbers of the handles.
+    pub fn into_parts(self) -> (Recording, Vec<u32>)
+//~         ensures spec { result.0.spec ≡ self.spec }
+//~         ensures recorded { result.0.is_recorded ≡ true }
+//~         ensures by { AreBy self.actor self.clock result.0.journal }
+    {
+        let Leading {
+            recording,
+            actor: _,
+            clock: _,
+            numbers,
+        } = self;
+        (recording, numbers)
     }
 }

@@ -2,76 +2,115 @@
 // From crates/rw_recording/src/numbering.rt, with its contracts as comments. //+
 use crate::shim::Vec; //+
 
+//~ ghost use Rattle.std.specs.Prelude.{◌≡◌, ◌≤◌, ◌<◌, ◌^◌, ℕ, Some, true, length, slice_index, IfOk, IfSome, IfNone};
+//~ ghost use Rattle.rw_recording.specs.Goals.{AreNumbered};
+//~ ghost use Rattle.rw_recording.specs.Windows.{number_of};
+
 use crate::source::rw_law::NoMemory;
 use crate::shim::alloc::Global;
 
 /// The numbers of handles in the journal of a window.
 //~ #[derive(Drop)]
 pub(crate) struct Numbering {
-    // For each handle that was made before the window: its number in the journal, where it was alive.
-    pub numbers: Vec<Option<u32>>,
+    // The handles that were alive before the window, by their numbers in the channel, and by those in the journal.
+    pub before: Vec<u32>,
+    pub after: Vec<u32>,
+    // For each handle that was made before the window: its place among these. For one that was dropped, it is any number.
+    pub places: Vec<u32>,
     // How many handles the lead makes. Those that are made in the window come next.
     pub made: u32,
 }
 
-/// Returns a list without numbers.
-fn no_numbers(alloc: Global, count: u32) -> Result<Vec<Option<u32>>, NoMemory>
+/// Makes a list of zeros.
+pub(crate) fn zeros(alloc: Global, count: u32) -> Result<Vec<u32>, NoMemory>
+//~     ensures { IfOk result (λ numbers. length numbers.items ≡ count) }
 {
     let mut numbers = Vec::with_capacity(alloc, count as usize)?;
-    for _ in 0..count {
-        numbers.push(None)?;
+    for _i in 0..count {
+        numbers.push_reserved(0);
     }
     Ok(numbers)
 }
 
-/// Writes the number of each live handle to its place.
-fn write_all(numbers: &mut Vec<Option<u32>>, before: &[u32], after: &[u32])
+/// Returns for each of so many handles its place in the list, or 0.
+fn places_of(alloc: Global, count: u32, before: &[u32]) -> Result<Vec<u32>, NoMemory>
+//~     requires { length before.now < 2 ^ 32 }
+//~     ensures { IfOk result (λ places. length places.items ≡ count) }
 {
-    for (h, number) in before.iter().zip(after) {
-        if let Some(place) = numbers.get_mut(*h as usize) {
-            *place = Some(*number);
+    let mut places = zeros(alloc, count)?;
+    for (i, handle) in before.iter().enumerate() {
+        if (*handle as usize) < places.len() {
+            places[*handle as usize] = i as u32;
         }
     }
-}
-
-/// Whether each live handle has its number.
-fn are_written(numbers: &[Option<u32>], before: &[u32], after: &[u32]) -> bool
-{
-    if before.len() != after.len() {
-        return false;
-    }
-    for (i, h) in before.iter().enumerate() {
-        if numbers.get(*h as usize) != Some(&Some(after[i])) {
-            return false;
-        }
-    }
-    true
+    Ok(places)
 }
 
 impl Numbering {
-    /// Makes the numbering by which live handle `before[i]` of so many has the number `after[i]`.
+    /// Makes the numbering by which live handle `before[i]` of so many has the number `after[i]`. There is none where two of them
+    /// are the same.
     pub fn of(
         alloc: Global,
         count: u32,
-        before: &[u32],
-        after: &[u32],
+        before: Vec<u32>,
+        after: Vec<u32>,
         made: u32,
     ) -> Result<Option<Numbering>, NoMemory>
+//~         ensures { IfOk result (λ some. IfSome some (AreNumbered before.items after.items count made)) }
     {
-        let mut numbers = no_numbers(alloc, count)?;
-        write_all(&mut numbers, before, after);
-        if !are_written(&numbers, before, after) {
+        if before.len() != after.len() || before.len() > count as usize {
             return Ok(None);
         }
-        Ok(Some(Numbering { numbers, made }))
+        let places = places_of(alloc, count, &before)?;
+        let numbering = Numbering {
+            before,
+            after,
+            places,
+            made,
+        };
+        if !numbering.has_each() {
+            return Ok(None);
+        }
+        Ok(Some(numbering))
+    }
+
+    /// Whether each live handle has its number.
+    fn has_each(&self) -> bool
+//~         requires { length self.now.after.items ≡ length self.now.before.items }
+//~         ensures { result ≡ true → (i : ℕ) → i < length self.now.before.items → number_of self.now (slice_index self.now.before.items i) ≡ Some (slice_index self.now.after.items i) }
+    {
+        for i in 0..self.before.len() {
+            if self.number(self.before[i]) != Some(self.after[i]) {
+                return false;
+            }
+        }
+        true
     }
 
     /// Returns the number of a handle of the channel, if it has one.
     pub fn number(&self, handle: u32) -> Option<u32>
+//~         ensures some { IfSome result (λ number. number_of self.now handle ≡ Some number) }
+//~         ensures none { IfNone result (IfSome (number_of self.now handle) (λ number. 2 ^ 32 ≤ number)) }
     {
-        match self.numbers.get(handle as usize) {
-            Some(number) => *number,
-            None => self.made.checked_add(handle - self.numbers.len() as u32),
+        let Some(place) = self.places.get(handle as usize) else {
+            let later = u64::from(handle) - self.places.len() as u64;
+            return fitting(u64::from(self.made) + later);
+        };
+        match self.before.get(*place as usize) {
+            Some(own) if *own == handle => self.after.get(*place as usize).copied(),
+            _ => None,
         }
+    }
+}
+
+/// Returns the number, if it is below 2^32.
+fn fitting(number: u64) -> Option<u32>
+//~     ensures some { IfSome result (λ same. number ≡ same) }
+//~     ensures none { IfNone result (2 ^ 32 ≤ number) }
+{
+    if number < 4_294_967_296 {
+        Some(number as u32)
+    } else {
+        None
     }
 }

@@ -235,3 +235,47 @@ fn windows_have_the_last_calls() {
         told.windows, told.entries, told.dropped, told.dozing
     );
 }
+
+/// Makes the calls of a recording anew, and compares what they leave.
+fn go_on(random: &mut Random, spec: Spec<u64>) {
+    let mut recording = Recording::open(Global, spec).unwrap();
+    let mut plain = open_channel(Global, &spec).unwrap();
+    let mut stamps = Vec::new();
+    for _ in 0..200 {
+        let handles = plain.made() as usize + 1;
+        let call = any_call(random, matches!(spec, Spec::Watch(_)), handles);
+        let (actor, clock) = (random.below(64) as u32, random.any() % 1_000);
+        if recording.call(actor, clock, call).is_ok() {
+            make(&mut plain, &call);
+            stamps.push(1 + clock.max(stamps.last().copied().unwrap_or(0)));
+        }
+    }
+    let chunk = 1 + random.below(60);
+    let flight = Flight::of(Global, &recording, chunk).unwrap();
+    assert_eq!(flight.spec(), spec);
+    assert_eq!(flight.len() + flight.dropped(), recording.len());
+    assert_eq!(flight.made(), plain.made());
+    for kind in [Kind::Sender, Kind::Receiver, Kind::Weak] {
+        assert_eq!(flight.alive(kind), recording.alive(kind));
+    }
+    for handle in 0..flight.made() {
+        assert_eq!(flight.position(handle), recording.position(handle));
+        assert_eq!(flight.unread(handle), recording.unread(handle));
+        assert_eq!(flight.is_seen(handle), recording.is_seen(handle));
+    }
+    let kept = flight.kept(Global).unwrap();
+    let first = stamps.get(flight.dropped() as usize).copied();
+    assert_eq!(kept.first_stamp(), first);
+    assert_eq!((kept.len(), kept.dropped()), (flight.len(), flight.dropped()));
+}
+
+#[test]
+fn flights_go_on_from_recordings() {
+    for seed in seeds() {
+        let mut random = Random::new(seed);
+        for capacity in 1..=8 {
+            go_on(&mut random, Spec::Broadcast(capacity));
+        }
+        go_on(&mut random, Spec::Watch(3));
+    }
+}
