@@ -5,8 +5,7 @@ use crate::names::Names;
 
 const MILLISECONDS_OF_DAY: u64 = 86_400_000;
 
-/// The units of a duration with how many microseconds each has, and how many of it are said at
-/// most.
+/// The units of a duration with how many microseconds each has, and how many are said at most.
 const UNITS: [(&str, u64, u64); 4] = [
     ("ms", 1_000, 1_000),
     ("s", 1_000_000, 120),
