@@ -1,5 +1,6 @@
 -- What a receiver lost in all is the sum of its losses.
-use Rattle.std.proofs.Common.{◌≡◌, ◌≢◌, ℕ, zero, suc, ◌+◌, ◌-◌, ◌<◌, ◌≤◌, ◌⊎◌, min, Bool, true, false, cond, List, [], ◌∷◌, length, get_or, inl, inr, refl, ap, sym}
+use Rattle.std.proofs.Common.{◌≡◌, ◌≢◌, ℕ, zero, suc, ◌+◌, ◌-◌, ◌<◌, ◌≤◌, ◌⊎◌, min, Bool}
+use Rattle.std.proofs.Common.{true, false, cond, List, [], ◌∷◌, length, get_or, inl, inr, refl, ap, sym}
 use Rattle.std.proofs.Common.{◌∙◌, subst, arith}
 use Rattle.std.specs.Prelude.{Option, Some, None, ◌&&◌, nat_eq, nat_le, unwrap_or}
 use Rattle.std.specs.List.{sum_by}
@@ -335,7 +336,8 @@ module _ {V : Type 0} (run : Run V) (c h : ℕ) where
               let is_it = λ (z : Loss). default_is losses there.0 z found.0 there.1 ∙ there.2 in
               sum_once (part (n + 1)) (part n) (at (n + 1) - at n) losses there.0 there.1
               (λ j z inside apart. quiet n (get_or losses j z) (is_loss j z inside)
-              (one_alone n j there.0 begun.0 z inside there.1 apart begun.1 (ap (λ l. l.channel) (is_it z) ∙ found.1.channel) (ap (λ l. l.receiver) (is_it z) ∙ found.1.receiver)
+              (one_alone n j there.0 begun.0 z inside there.1 apart begun.1 (ap (λ l. l.channel) (is_it z) ∙ found.1.channel)
+              (ap (λ l. l.receiver) (is_it z) ∙ found.1.receiver)
               (ap (λ l. l.from) (is_it z) ∙ found.1.from_is)))
               (λ z. subst (λ l. part (n + 1) l ≡ part n l + (at (n + 1) - at n)) (sym (is_it z))
               (grows n found.0 found.1.is within found.1.channel found.1.receiver (omega (arith, found.1.from_is, begun.1.within)) found.1.there))
