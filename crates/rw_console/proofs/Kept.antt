@@ -42,8 +42,8 @@ after_line-kept r text = ap (at_line (r.lines + 1)) (with_line-kept (record r { 
 
 pub is_mark_long : (text : List ℕ) → LONGEST_LINE < length text → is_mark text ≡ false
 is_mark_long text lt = false_from_ne_true (is_mark text) (λ e.
-  let three : length text ≡ 3 = ap length ((bytes_eq-Decides text (codes "---")).0 e) in
-  absurd (omega (arith, three, lt)))
+    let three : length text ≡ 3 = ap length ((bytes_eq-Decides text (codes "---")).0 e) in
+    absurd (omega (arith, three, lt)))
 
 with_line_long : (r : ScriptReader) (text : List ℕ) → LONGEST_LINE < length text → with_line r text ≡ Err TooLong
 unfolding with_line

@@ -218,7 +218,7 @@ fault_long {r0 = r0} {r = r} {r' = r'} {reading = reading} {line = line} s l =
     let text : List ℕ = line ++ front.0 in
     let long : 256 < length text = omega (arith, length-append line front.0, l.long) in
     ap script_in (ap lines (append_assoc (unlines s.ls) line more) ∙ lines_unlines s.ls (line ++ more) s.each
-      ∙ ap (λ (x : List (List ℕ)). s.ls ++ x) front.2)
+    ∙ ap (λ (x : List (List ℕ)). s.ls ++ x) front.2)
     ∙ s.script (text ∷ front.1) ∙ at_line_said reading (Err f) text front.1 (is_mark_long text long) (after_line_long reading text long) in
     record {
       bytes = bytes;

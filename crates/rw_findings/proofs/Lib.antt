@@ -38,3 +38,4 @@ pub mod LossLaws
 pub mod ReceiptSteps
 pub mod StartSteps
 pub mod ValueCounts
+pub mod LossSums

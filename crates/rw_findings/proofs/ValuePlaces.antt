@@ -283,7 +283,7 @@ module _ {V : Type 0} where
     opens (Broadcast capacity) = (omega arith, omega arith)
     opens (Watch init) = (omega arith, refl)
 
-    opened_is : (x : ChanShown V) → slice_get (shown_at run 0) c ≡ Some x → (count_in x ≤ 1) × (oldest_in x ≡ 0)
+    pub opened_is : (x : ChanShown V) → slice_get (shown_at run 0) c ≡ Some x → (count_in x ≤ 1) × (oldest_in x ≡ 0)
     opened_is x here = by_spec (slice_get run.specs c) refl where
       at_first : slice_get (shown_at run 0) c ≡ option_map opened_channel (slice_get run.specs c)
       at_first = ap (λ xs. slice_get xs c) (sym (shows run.specs run.entries 0)) ∙ slice_get-map opened_channel run.specs c

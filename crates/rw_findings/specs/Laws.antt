@@ -1,5 +1,6 @@
 -- Laws of findings: a run has them in one way alone, and those of different kinds agree.
-use Rattle.std.specs.Prelude.{◌≡◌, ℕ, ◌+◌, ◌-◌, ◌<◌, ◌≤◌, List, Some, length, slice_get, slice_index_or}
+use Rattle.std.specs.Prelude.{◌≡◌, ℕ, ◌+◌, ◌-◌, ◌<◌, ◌≤◌, ◌&&◌, nat_eq, if◌then◌else◌, List, Some, length, slice_get, slice_index_or}
+use Rattle.std.specs.List.{Contains, sum_by}
 use Rattle.rw_broadcast.specs.declared.calls.BReply.TheVariants.{Lagged}
 use Rattle.rw_journal.specs.Run.{IsRun, Run}
 use Rattle.rw_world.specs.declared.channels.ChanCall.{ChanCall}
@@ -21,6 +22,8 @@ use Rattle.rw_findings.specs.declared.losses.loss.Loss.{Loss}
 use Rattle.rw_findings.specs.declared.losses.loss.LossEnd.TheVariants.{Told}
 use Rattle.rw_findings.specs.declared.peaks.measure.Measure.{Measure}
 use Rattle.rw_findings.specs.declared.peaks.measure.Stretches.{Stretches}
+use Rattle.rw_findings.specs.declared.totals.total.BroadcastCounts.{BroadcastCounts}
+use Rattle.rw_findings.specs.declared.totals.total.Counts.TheVariants.{Broadcast}
 use Rattle.rw_findings.specs.declared.totals.total.Totals.{Totals}
 use Rattle.rw_findings.specs.declared.values.value.ChannelValue.{ChannelValue}
 
@@ -78,3 +81,12 @@ LostValuesFollow V = (run : Run V) (loss : Loss) → IsLoss run loss
     → (first : ℕ)
     × ((place : ℕ) → loss.from ≤ place → place < stop_of (last_place run) loss.end → position_then run loss.channel loss.receiver place ≡ Some first)
     × (first + loss.lost ≡ oldest_at run loss.channel (stop_of (last_place run) loss.end - 1))
+
+-- what was lost by a loss, if it is this receiver's
+abbrev pub lost_by : (channel receiver : ℕ) → Loss → ℕ
+lost_by channel receiver loss = if nat_eq loss.channel channel && nat_eq loss.receiver receiver then loss.lost else 0
+
+-- what a receiver lost in all is the sum of its losses
+abbrev pub TotalsAddUp : Type 0 → Type 0
+TotalsAddUp V = (run : Run V) (losses : List Loss) (totals : List Totals) → AreLosses run losses → AreTotals run totals
+    → (t : Totals) (counts : BroadcastCounts) → Contains totals t → t.counts ≡ Broadcast counts → counts.lost ≡ sum_by (lost_by t.channel t.receiver) losses

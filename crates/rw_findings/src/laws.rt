@@ -1,6 +1,6 @@
 //! What holds of the findings of every run.
-ghost use Rattle.rw_findings.specs.Laws.{ClosingsAreUnique, LivesAreUnique, LossesAreUnique, LostValuesFollow};
-ghost use Rattle.rw_findings.specs.Laws.{PeaksAreUnique, ToldLossesAreReplies, TotalsAreUnique, ValuesAreUnique};
+ghost use Rattle.rw_findings.specs.Laws.{ClosingsAreUnique, LivesAreUnique, LossesAreUnique, LostValuesFollow, PeaksAreUnique};
+ghost use Rattle.rw_findings.specs.Laws.{ToldLossesAreReplies, TotalsAddUp, TotalsAreUnique, ValuesAreUnique};
 
 /// A run has its findings in one way alone. The function does nothing: its clauses are the laws.
 pub fn unique_findings<V: Copy>()
@@ -12,8 +12,9 @@ pub fn unique_findings<V: Copy>()
     ensures values { ValuesAreUnique V }
 {}
 
-/// Losses are of values that follow one another, and agree with the replies that told of them. The function does nothing.
+/// Losses are of values that follow one another, and agree with the replies that told of them and with totals. The function does nothing.
 pub fn losses_and_entries<V: Copy>()
     ensures values { LostValuesFollow V }
     ensures told { ToldLossesAreReplies V }
+    ensures totals { TotalsAddUp V }
 {}

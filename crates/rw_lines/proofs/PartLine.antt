@@ -57,7 +57,8 @@ last_of_part {old = old} {now = now} {new = new} p some none ended = record {
 }
 
 -- the first bytes of a line that is too long
-pub part_of_long : {old now : Option (List ℕ)} {before allowed : ℕ} {line : List ℕ} → GivesLong old now before allowed line → PartLine old now before allowed line
+pub part_of_long : {old now : Option (List ℕ)} {before allowed : ℕ} {line : List ℕ} → GivesLong old now before allowed line
+    → PartLine old now before allowed line
 part_of_long {line = line} l = record {
   text = line;
   unbroken = l.unbroken;

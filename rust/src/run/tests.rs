@@ -2,7 +2,7 @@
 
 mod model;
 
-use super::{LossEnd, Run, RunEntry, Spec, TextFault};
+use super::{LossEnd, Run, RunEntry, Spec, TextFault, values_between};
 use crate::backend::{Actor, Caller, Cut, Recording};
 use crate::reply::Reply;
 use crate::word::Word;
@@ -148,7 +148,8 @@ fn what_is_found_in_random_runs_is_what_the_definitions_say() {
     let (mut told, mut dropped, mut open, mut missed, mut read_on) = (0, 0, 0, 0, 0);
     for seed in 0..runs() {
         let text = random_journal(seed);
-        let wanted = Model::of(&text).findings();
+        let model = Model::of(&text);
+        let wanted = model.findings();
         let run = Run::read(text.as_bytes()).unwrap();
         let found = run.findings().unwrap();
         assert_eq!(found.entries(), run.len());
@@ -156,6 +157,17 @@ fn what_is_found_in_random_runs_is_what_the_definitions_say() {
         assert_eq!(found.totals(), wanted.totals, "{text}");
         assert_eq!(found.closings(), wanted.closings, "{text}");
         assert_eq!(found.late(), wanted.late, "{text}");
+        assert_eq!(found.starts(), wanted.starts, "{text}");
+        assert_eq!(found.receipts(), wanted.receipts, "{text}");
+        for totals in &wanted.totals {
+            let name = (totals.channel, totals.receiver);
+            let lives = run.lives(name.0).unwrap();
+            let life = &lives[name.1 as usize];
+            let values = run.values(name.0).unwrap();
+            let end = life.dropped().unwrap_or(run.len());
+            let came = values_between(&values, life.made(), end);
+            assert_eq!(came, model.came_to(name), "{text}");
+        }
         for loss in &wanted.losses {
             match loss.end {
                 LossEnd::Told(_) => told += 1,

@@ -3,7 +3,7 @@
 //! judges.
 
 use crate::run::{Closing, Counts, LateReader, Loss, LossEnd, Totals};
-use crate::source::rw_recording::{BroadcastCounts, WatchCounts};
+use crate::source::rw_recording::{BroadcastCounts, LossStart, WatchCounts};
 use std::collections::BTreeMap;
 
 /// A receiver, by its channel and its number.
@@ -56,7 +56,9 @@ impl ModelEntry<'_> {
 /// All that is found in a run, each list in the order that the core documents.
 pub(super) struct Findings {
     pub(super) losses: Vec<Loss>,
+    pub(super) starts: Vec<LossStart>,
     pub(super) totals: Vec<Totals>,
+    pub(super) receipts: Vec<u64>,
     pub(super) closings: Vec<Closing>,
     pub(super) late: Vec<LateReader>,
 }
@@ -174,6 +176,28 @@ impl Model<'_> {
         losses
     }
 
+    /// The last place up to this one to which a call led that gave the receiver a value, or 0.
+    fn last_given(&self, (channel, receiver): Name, to: usize) -> u64 {
+        let given = self.entries[..to].iter().rposition(|entry| {
+            (entry.channel, entry.handle, entry.reply) == (channel, receiver, "value")
+        });
+        given.map_or(0, |index| index as u64 + 1)
+    }
+
+    fn start(&self, loss: &Loss) -> LossStart {
+        let (name, from) = ((loss.channel, loss.receiver), loss.from as usize);
+        LossStart {
+            first: self.states[from].positions[&name],
+            received: self.last_given(name, from),
+        }
+    }
+
+    /// How many values came to a receiver while it was there.
+    pub(super) fn came_to(&self, name: Name) -> u64 {
+        let places = 1..=self.entries.len();
+        places.filter(|place| self.came(name, *place)).count() as u64
+    }
+
     /// How many entries of a receiver are of this call, or of any, and have this reply.
     fn count(&self, (channel, receiver): Name, word: Option<&str>, reply: &str) -> u64 {
         let entries = self.entries.iter();
@@ -282,8 +306,13 @@ impl Model<'_> {
         let readers = self.receivers().into_iter();
         let channels = 0..self.retained.len() as u32;
         let closings: Vec<_> = channels.filter_map(|it| self.closing(it)).collect();
+        let losses = self.losses();
+        let last = self.entries.len();
+        let receipts = self.receivers().into_iter();
         Findings {
-            losses: self.losses(),
+            starts: losses.iter().map(|loss| self.start(loss)).collect(),
+            receipts: receipts.map(|name| self.last_given(name, last)).collect(),
+            losses,
             totals: readers
                 .map(|name| Totals {
                     channel: name.0,

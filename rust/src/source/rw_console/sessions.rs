@@ -101,7 +101,7 @@ fn outcome_at(waits: Option<u64>) -> Outcome
 }
 
 /// Reads a script and runs it, then reads commands and writes their output. It ends at a `quit` or at the reader's end. No byte
-/// after a `quit`, or after a line of the script with a fault, is read.
+/// after a `quit`, or after a line of the script with a fault, is read, and of one that is too long no more than shows that.
 pub fn session<R: Read, W: Write>(
     alloc: Global,
     reader: &mut R,

@@ -115,7 +115,10 @@ fn a_line_is_too_long_before_a_read_fails() {
     let short = next_short_line(&mut reader, &mut 257, &mut line);
     let failed = next_short_line(&mut reader, &mut 257, &mut line);
     drop(line);
-    assert_eq!((short, failed), (Ok(NextShort::TooLong), Err(StreamFault::Read)));
+    assert_eq!(
+        (short, failed),
+        (Ok(NextShort::TooLong), Err(StreamFault::Read))
+    );
 }
 
 #[test]

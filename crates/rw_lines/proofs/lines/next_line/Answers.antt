@@ -52,6 +52,6 @@ returns-then-byte-eq10-clause-ok g c =
 pub each_byte-preserved : goal.each_byte-preserved
 each_byte-preserved g c = (
   next_part _ _ _ _ _ _ _ c.in-Some.byte c.each_byte.invariant.0 (rw c.in-Some.is at c.in_ok-byte.ensures.byte) c.if-byte-eq10.false (omega arith)
-  (λ le. absurd (omega (arith, c.each_byte.invariant.1))) (λ lt. refl),
+      (λ le. absurd (omega (arith, c.each_byte.invariant.1))) (λ lt. refl),
   c.each_byte.invariant.1,
 )
