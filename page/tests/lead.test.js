@@ -22,12 +22,13 @@ test("what was lost before the window is what it really was", () => {
 });
 
 test("a time is known between two others", () => {
-  // The wall clock is set back by a second between the last two.
-  const times = [[10, 1_795_921_961_120, 17_000_000], [20, 1_795_921_965_120, 21_000_000], [30, 1_795_921_964_120, 22_000_000]];
+  // The wall clock is set back by a second between the second and the third.
+  const times = [[10, 1_795_921_961_120, 17_000_000], [20, 1_795_921_965_120, 21_000_000], [30, 1_795_921_964_120, 22_000_000],
+    [30, 1_795_921_964_620, 22_500_000], [40, 1_795_921_965_120, 23_000_000]];
   const text = stamp => timeOf(WINDOW, times, stamp)?.text;
-  assert.deepStrictEqual([9, 10, 13, 25, 30, 31].map(text), [
-    undefined, "at 03:12:41.120 UTC, 5 s before the dump", "at 03:12:42.320 UTC, 3 s before the dump", "at 03:12:44.620 UTC, 500 ms before the dump",
-    "at 03:12:44.120 UTC, at the dump", undefined,
+  assert.deepStrictEqual([9, 10, 13, 25, 30, 40, 41].map(text), [
+    undefined, "at 03:12:41.120 UTC, 6 s before the dump", "at 03:12:42.320 UTC, 4 s before the dump", "at 03:12:44.620 UTC, 1 s before the dump",
+    "at 03:12:44.120 UTC, 1 s before the dump", "at 03:12:45.120 UTC, at the dump", undefined,
   ]);
   assert.strictEqual(timeOf(WINDOW, times, 13).iso, "2026-11-29T03:12:42.320Z");
   assert.strictEqual(timeOf(null, times, 13), null);

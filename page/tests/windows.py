@@ -184,13 +184,13 @@ def losses_in_window(whole, *, cut, made, places, **_):
     """The losses of a whole run that didn't end before a call, by the places of the window and the real numbers of receivers."""
     back = dict(zip(places, range(made["window"]["lead"] + 1, 10 ** 9)))
     those = [it for it in whole["losses"] if it["to"] is None or it["to"] > cut]
-    return sorted((it["channel"], it["receiver"], "before" if it["from"] <= cut else back[it["from"]], back.get(it["to"], "open"), it["lost"]) for it in those)
+    return sorted(((it["channel"], it["receiver"], "before" if it["from"] <= cut else back[it["from"]], back.get(it["to"], "open"), it["lost"]) for it in those), key=str)
 
 
 def losses_told(account, made):
     window = made["window"]
     real = lambda it: window["channels"][str(it["channel"])]["handles"][it["receiver"]]
-    return sorted((it["channel"], real(it), "before" if it["from"] <= window["lead"] else it["from"], it["to"] or "open", it["lost"]) for it in account["losses"])
+    return sorted(((it["channel"], real(it), "before" if it["from"] <= window["lead"] else it["from"], it["to"] or "open", it["lost"]) for it in account["losses"]), key=str)
 
 
 def window_as_why_says(tab, folder, journals):
@@ -223,4 +223,98 @@ def window_as_why_says(tab, folder, journals):
     assert kinds >= {"loss", "unlooked", "closing", "lag", "time", "before"}, kinds
 
 
-TESTS = [window_as_why_says]
+def night():
+    """A run in which `audit` stops reading 30 sends before the end, and another receiver never reads. The last 20 calls are those of the window: of three
+    connections that are gone before it, only the numbers are left."""
+    lines = ["broadcast 8", "watch 5", "actors 3"]
+    for handle in (2, 3, 4):
+        lines += ["0 0 subscribe 0", f"0 0 drop {handle}"]
+    lines += ["0 0 subscribe 0", "0 1 subscribe 0"]
+    for value in range(100, 200):
+        lines.append(f"0 0 send 0 {value}")
+        if value < 170:
+            lines.append("1 0 try-recv 5")
+        if value % 10 == 0:
+            lines.append(f"2 1 send 0 {value}")
+            lines.append("2 1 update 1")
+    lines += ["1 0 try-recv 5", "1 0 try-recv 5"]
+    return native.record(("\n".join(lines) + "\n").encode())
+
+
+NIGHT = {
+    "actors": {"0": "ticker", "1": "night-audit", "2": "admin"}, "channels": {"0": "prices", "1": "config"},
+    "values": {"0": {str(value): f"{value} EUR" for value in range(100, 200)}}, "locations": [["src/bus.rs", line, 9] for line in range(10, 20)],
+}
+
+SLIDE = """(to => {
+    const slider = document.getElementById('slider');
+    slider.valueAsNumber = to;
+    for (const name of ['input', 'change']) slider.dispatchEvent(new Event(name));
+})"""
+
+# Whether the left end of the picture is grey.
+GREY = """(() => {
+    const canvas = document.getElementById('picture'), scale = canvas.width / canvas.getBoundingClientRect().width;
+    const [red, green, blue, alpha] = canvas.getContext('2d').getImageData(Math.round(272 * scale), canvas.height - 4, 1, 1).data;
+    return alpha > 60 && Math.abs(red - green) < 20 && Math.abs(green - blue) < 20;
+})()"""
+
+
+def window_is_drawn(tab, folder, journals):
+    """A window opens at the call that was told, with the real numbers of receivers and what was really lost. Before its first call is one grey column,
+    at which walking back ends, and the slider leads into the lead, where nobody loses anything. The picture of the whole has no more of it."""
+    journal = night()
+    calls = int(native.check(journal).split(" ")[1])
+    window, made, _ = window_of(journal, calls - 20, NIGHT, "lag", "`night-audit` lost 22 values of `prices`")
+    lead = made["window"]["lead"]
+    opening.put(folder, "night.names", json.dumps(made).encode())
+    page = opening.page_of(folder, "night.journal", window)
+    opening.load_first(tab, page)
+    opening.settle(tab, lead + 19)
+    assert tab.text("place") == f"call {lead + 19} of {lead + 20}", tab.text("place")
+    assert "lagged 22" in tab.text("sentence") and " UTC, " in tab.text("sentence"), tab.text("sentence")
+    panel = tab.run(opening.PANEL)
+    assert any(row.startswith("receiver 1: 8 to read, 92 overwritten") for row in panel) and any(row.startswith("receiver 5: ") for row in panel), panel
+    assert "receiver 5 lost 22 values" in tab.text("state"), tab.text("state")[:300]
+    assert "the overwriting began before the window" in tab.text("state"), tab.text("state")[:300]
+    tab.picture(f"{native.PICTURES}/window.png")
+    tab.key("Home")
+    opening.settle(tab, lead)
+    assert tab.text("place") == f"before call {lead + 1}" and "the window begins" in tab.text("sentence")
+    tab.key("ArrowLeft")
+    opening.settle(tab, lead)
+    assert tab.run(GREY)
+    tab.picture(f"{native.PICTURES}/window_start.png")
+    tab.key("ArrowRight")
+    opening.settle(tab, lead + 1)
+    tab.run(f"{SLIDE}({lead - 3})")
+    opening.settle(tab, lead - 3)
+    assert tab.text("place") == f"{lead - 3} of {lead} that lead to it" and tab.text("sentence").startswith("leads to the window: "), tab.text("sentence")
+    assert "lost" not in tab.text("state"), tab.text("state")[:200]
+    tab.picture(f"{native.PICTURES}/window_lead.png")
+    tab.key("Home")
+    tab.key("0")
+    opening.settle(tab, lead)
+    assert tab.run("document.getElementById('picture').getAttribute('aria-label')") == f"The start and calls {lead + 1} to {lead + 20}, drawn."
+    tab.key("t")
+    rows = tab.run("[...document.querySelectorAll('#table-rows tr[data-receiver]')].map(row => row.innerText.replace(/\\s+/g, ' '))")
+    assert len(rows) == 4 and any("receiver 1 0 0 92 92 8 92" in row for row in rows), rows
+    tab.key("t")
+
+
+def window_by_names(tab, folder, journals):
+    """A journal that is opened without its names is a run with a lead. With them it is a window."""
+    journal = night()
+    window, made, _ = window_of(journal, int(native.check(journal).split(" ")[1]) - 20, NIGHT)
+    tab.load(native.PAGE)
+    tab.wait("window.ttd")
+    tab.drop(opening.put(folder, "late.journal", window))
+    opening.settle(tab)
+    assert "64 actors" in tab.text("facts"), tab.text("facts")
+    tab.drop(opening.put(folder, "late.names", json.dumps(made).encode()))
+    tab.wait("document.getElementById('facts').textContent.includes('dump of')")
+    opening.settle(tab, made["window"]["lead"] + 19)
+    assert "3 actors" in tab.text("facts") and "20 calls" in tab.text("facts"), tab.text("facts")
+
+
+TESTS = [window_as_why_says, window_is_drawn, window_by_names]

@@ -45,7 +45,7 @@ function drawSentValues(drawing) {
 function codeWidth({ run, frame }, place, row) {
   const actor = run.columns.actors[place];
   const width = run.actors.codes[actor].length * LETTER;
-  return actor !== row.lives[0].user && width + 2 * (LARGEST + CODE_GAP) <= frame.column ? width : 0;
+  return actor !== run.userOf(row.lives[0]) && width + 2 * (LARGEST + CODE_GAP) <= frame.column ? width : 0;
 }
 
 function drawCaller({ pen, run }, entry, x, y) {
@@ -90,7 +90,7 @@ function drawFar({ pen, frame, palette }, place, row) {
 /** @param {Drawing} drawing */
 function eachCall({ run, view, band }, show, { isBack = false } = {}) {
   const { channels, handles, marks } = run.columns;
-  const first = Math.max(1, view.from);
+  const first = Math.max((view.least ?? 0) + 1, view.from);
   const last = Math.min(view.to, run.lastPlace);
   for (let i = 0; i <= last - first; i++) {
     const place = isBack ? last - i : first + i;

@@ -51,7 +51,8 @@ const cutNames = new WeakMap();
 export function drawRowName(drawing, row, life) {
   const { pen, run, palette } = drawing;
   const { x, y, room } = nameRoom(drawing, row);
-  if (life.user !== null) run.actors.drawBadge(pen, palette, life.user, x, y - 8);
+  const user = run.userOf(life);
+  if (user !== null) run.actors.drawBadge(pen, palette, user, x, y - 8);
   if (cutNames.get(row)?.life !== life) cutNames.set(row, { life, text: cutName(drawing, life, room - BADGE_ROOM) });
   pen.textAlign = "left";
   pen.fillText(cutNames.get(row).text, x + BADGE_ROOM, y);
@@ -61,6 +62,7 @@ export function drawRowName(drawing, row, life) {
 export function rowName(run, channel, life) {
   const owner = run.ownerOf(channel, life);
   const number = element("span", { "data-handle": life.handle }, `${life.kind} ${run.numberOf(channel, life.handle)}`);
-  const badge = life.user === null ? [] : [run.actors.badge(life.user), " "];
+  const user = run.userOf(life);
+  const badge = user === null ? [] : [run.actors.badge(user), " "];
   return owner ? [...badge, outside(owner), " · ", number] : [number];
 }

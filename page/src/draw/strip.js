@@ -15,6 +15,8 @@ const LEAST_BEFORE = 4;
 
 // At the right of the names: how much was lost, and a sign where some of it was never told.
 const COUNT = 78;
+const DIGIT = 6.1;
+const MOST_DIGITS = 7;
 const SIGN = { right: 10, width: 12, height: 8 };
 
 // Where a row of the strip is. Few channels have higher rows.
@@ -75,7 +77,8 @@ export function drawLostCount({ pen, run, palette }, channel, right, middle) {
 // `drawing` has the pen, the run, a frame over all of it, the palette, the order of the channels, and the levels by stretches, once they are loaded.
 export function drawStrip(drawing) {
   const { pen, run, frame, palette, whole, order } = drawing;
-  const room = run.losses.all.length ? COUNT : SIGN.right;
+  const digits = Math.max(0, ...run.losses.sums.map(({ lost }) => grouped(lost).length));
+  const room = run.losses.all.length ? COUNT + DIGIT * Math.max(0, digits - MOST_DIGITS) : SIGN.right;
   order.forEach((channel, index) => {
     const row = stripRow(run, index);
     const middle = row.y + row.bar / 2;

@@ -70,6 +70,12 @@ export function forgetAddress() {
   clearTimeout(timer);
 }
 
+// Discards the place in the address, so that the run is opened where it is worth looking at first.
+export function forgetPlace() {
+  clearTimeout(timer);
+  write("replaceState", history.state, "#");
+}
+
 // Returns the key of the run that this step of the history belongs to, or undefined if the address was written by hand.
 export function runInHistory() {
   return history.state?.run;

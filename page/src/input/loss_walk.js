@@ -25,7 +25,9 @@ export class LossWalk {
     return this.known.losses;
   }
 
+  // Nobody loses anything in a lead.
   lossesAt(place) {
+    if (place < this.run.lead) return [];
     const { channels, handles } = this.run.columns;
     const rank = loss => [loss === this.shown.loss, loss.channel === channels[place] && loss.receiver === handles[place],
       loss.from === place || loss.to === place, loss.channel === channels[place]].reduce((sum, is) => 2 * sum + Number(is), 0);

@@ -12,7 +12,7 @@ import { View, columnsThatFit, placesAtFirst } from "../draw/view.js";
 import { openAccount } from "../findings/answer.js";
 import { firstPlace } from "../run/account.js";
 import { LossTable } from "../findings/loss_table.js";
-import { pushRun, readAddress } from "../input/address.js";
+import { forgetPlace, pushRun, readAddress } from "../input/address.js";
 import { Walk } from "../input/walk.js";
 import { bindingsOf } from "../run/bindings.js";
 import { windowText } from "../run/lead.js";
@@ -253,9 +253,12 @@ export class Opener {
     this.redraw();
   }
 
-  // Opens the run again with the names of a window, since it begins elsewhere then.
-  renewWith(names, bytes, name) {
-    return this.ask({ ...this.page.source, names: bytes, namesFile: name });
+  // Opens the run again with the names of a window, since it begins elsewhere then: behind its lead, unless the place is there.
+  renewWith({ window }, bytes, name) {
+    if (this.page.walk.view.place <= window.lead) forgetPlace();
+    const source = { ...this.page.source, names: bytes, namesFile: name };
+    if (source.key !== OWN) this.keep(source);
+    return this.ask(source);
   }
 
   // Draws all again, such as after a change of the window's size.

@@ -53,9 +53,10 @@ export function utc(wall) {
 // When the call with a stamp was made, in words and as JSON has it, or null. Between two times that are known it is by the stamps.
 export function timeOf(window, times, stamp) {
   if (!window) return null;
-  const next = countUpTo(times.map(([it]) => it), stamp);
-  const before = times[next - 1];
-  const after = times[next] ?? (before?.[0] === stamp ? before : undefined);
+  // The dump may have the stamp of the last call, whose own time is before it.
+  const next = countUpTo(times.map(([it]) => it), stamp - 1);
+  const after = times[next];
+  const before = after?.[0] === stamp ? after : times[next - 1];
   if (before === undefined || after === undefined) return null;
   const dump = times.at(-1);
   const [wall, monotonic] = [1, 2].map(i => between(before[i], after[i], stamp - before[0], after[0] - before[0]));

@@ -146,7 +146,6 @@ export class Run {
       const [before, here] = lostBefore(window, sends[loss.channel], loss);
       return { ...loss, lost: loss.lost - here + before, before, here };
     }));
-    for (const life of this.lives.flat()) if (life.last <= this.lead) life.user = null;
     this.receiverCounts = this.countReceivers();
     this.callers = new Set(this.columns.actors.subarray(this.lead + 1));
   }
@@ -198,9 +197,15 @@ export class Run {
     return this.lastPlace + (this.waits.length > 0 ? 1 : 0);
   }
 
+  // Returns the actor that used a handle last, or null. Nobody has made the calls of a lead.
+  userOf({ user, last }) {
+    return this.lead > 0 && last <= this.lead ? null : user;
+  }
+
   // Returns whose a handle is: its own name where it has one, else that of the actor that used it last, if one did.
   ownerOf(channel, life) {
-    return this.names.handle(channel, life.handle) ?? (life.user === null ? undefined : this.names.actor(life.user));
+    const user = this.userOf(life);
+    return this.names.handle(channel, life.handle) ?? (user === null ? undefined : this.names.actor(user));
   }
 
   // A handle's name in a text: whose it is, its kind and number.

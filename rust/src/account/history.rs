@@ -17,8 +17,8 @@ const RECEIVES: [Word; 7] = [
     Word::HasChanged,
 ];
 
-/// The calls by which a receiver of a watch marks a version as seen, where they return a value or
-/// are done.
+/// The calls by which a receiver of a watch marks a version as seen, if they return a value or are
+/// done.
 const MARKS: [Word; 4] = [
     Word::Changed,
     Word::Update,

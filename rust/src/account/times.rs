@@ -5,8 +5,7 @@ use crate::names::Names;
 
 const MILLISECONDS_OF_DAY: u64 = 86_400_000;
 
-/// The units of a duration with how many microseconds each has, and how many of it are said at
-/// most.
+/// The units of a duration with how many microseconds each has, and how many are said at most.
 const UNITS: [(&str, u64, u64); 4] = [
     ("ms", 1_000, 1_000),
     ("s", 1_000_000, 120),
@@ -44,12 +43,13 @@ impl<'a> Times<'a> {
     /// Returns when the call with this stamp was made, if there are times around it. Between two of
     /// them it is by the stamps.
     pub(super) fn at(&self, stamp: u64) -> Option<CallTime> {
-        let next = self.known.partition_point(|time| time.stamp <= stamp);
-        let before = self.known.get(next.checked_sub(1)?)?;
-        let after = match self.known.get(next) {
-            Some(after) => after,
-            None if before.stamp == stamp => before,
-            None => return None,
+        // The dump may have the stamp of the last call, whose own time is before it.
+        let next = self.known.partition_point(|time| time.stamp < stamp);
+        let after = self.known.get(next)?;
+        let before = if after.stamp == stamp {
+            after
+        } else {
+            self.known.get(next.checked_sub(1)?)?
         };
         let dump = self.known.last()?;
         let part = (stamp - before.stamp, after.stamp - before.stamp);
@@ -188,25 +188,28 @@ mod tests {
 
     #[test]
     fn a_time_is_known_between_two_others() {
-        // The wall clock is set back by a second between the last two.
+        // The wall clock is set back by a second between the second and the third.
         let names = names(&[
             [10, 1_795_921_961_120, 17_000_000],
             [20, 1_795_921_965_120, 21_000_000],
             [30, 1_795_921_964_120, 22_000_000],
+            [30, 1_795_921_964_620, 22_500_000],
+            [40, 1_795_921_965_120, 23_000_000],
         ]);
         let times = Times::of(&names);
         let text = |stamp| times.at(stamp).map(|time| time.text());
         let wanted = |text: &str| Some(text.to_string());
-        assert_eq!((text(9), text(31)), (None, None));
-        let first = "at 03:12:41.120 UTC, 5 s before the dump";
+        assert_eq!((text(9), text(41)), (None, None));
+        let first = "at 03:12:41.120 UTC, 6 s before the dump";
         assert_eq!(text(10), wanted(first));
         // 3 of 10 parts of 4 s.
-        let between = "at 03:12:42.320 UTC, 3 s before the dump";
+        let between = "at 03:12:42.320 UTC, 4 s before the dump";
         assert_eq!(text(13), wanted(between));
         // Half of the way back.
-        let back = "at 03:12:44.620 UTC, 500 ms before the dump";
+        let back = "at 03:12:44.620 UTC, 1 s before the dump";
         assert_eq!(text(25), wanted(back));
-        assert_eq!(text(30), wanted("at 03:12:44.120 UTC, at the dump"));
+        assert_eq!(text(30), wanted("at 03:12:44.120 UTC, 1 s before the dump"));
+        assert_eq!(text(40), wanted("at 03:12:45.120 UTC, at the dump"));
         let iso = times.at(13).map(|time| time.iso());
         assert_eq!(iso, wanted("2026-11-29T03:12:42.320Z"));
     }

@@ -34,9 +34,8 @@ pub(super) fn lines(context: &Context<'_>) -> Vec<String> {
 fn before_window(context: &Context<'_>) -> Option<String> {
     let window = context.names.window.as_ref()?;
     let count: u64 = window.channels.values().map(|channel| channel.calls).sum();
-    let was = if count == 1 { "was" } else { "were" };
     let calls = visible::counted(count, "call");
-    (count > 0).then(|| format!("{calls} {was} made before the window"))
+    (count > 0).then(|| format!("{calls} came before the window"))
 }
 
 /// Says that recording ended early, if it did. Names of before that was noted don't say so.

@@ -3,6 +3,7 @@
 
 use super::Account;
 use super::tests::account;
+use crate::report::{Report, sarif};
 
 /// The story of a night: a broadcast of 16 is sent 5,000,000 values, of which `audit` receives all
 /// but the last 100. Its next receive tells it that 84 are lost. The last 20 calls are kept: 19
@@ -39,8 +40,8 @@ fn a_loss_that_began_before_the_window_is_told_with_what_is_known() {
         "`audit` lost 84 of at most 5000000 values of `prices` (capacity 16)",
         "  before the window   the overwriting began",
         "  call 101            told: lagged 84         night-audit  src/main.rs:20   its last receive: none in the window; at 03:12:45.120 UTC, at the dump",
-        // 65 were overwritten before the window, and the 19 sends overwrote those of the 16 that
-        // the window begins with, and the first 3 of its own.
+        // 65 were overwritten before the window. Its 19 sends overwrote the 16 with which it
+        // begins, and their own first 3.
         "  lost: 65 values, overwritten before the window; value 4999965, value 4999966, value 4999967, .. value 4999983",
     ];
     assert_eq!(found.facts.len(), 1);
@@ -48,12 +49,11 @@ fn a_loss_that_began_before_the_window_is_told_with_what_is_known() {
     let window = found.window.as_ref().unwrap();
     let wanted = "dump of 2026-11-29 03:12:45.120 UTC: `audit` lost 84 values of `prices`; calls 82 to 101; 1 to 81 lead to the window";
     assert_eq!(window.text, wanted);
-    assert_eq!(found.unknown, ["9999881 calls were made before the window"]);
+    assert_eq!(found.unknown, ["9999881 calls came before the window"]);
     assert_eq!((found.look, found.nothing.as_ref()), (101, None));
 }
 
-/// Names with a window of two channels, a broadcast `bus` and a watch `state`, and these other
-/// keys.
+/// Names with a window of a broadcast `bus` and a watch `state`, and these other keys.
 fn names(lead: u64, bus: &str, state: &str, others: &str) -> String {
     format!(
         r#"{{"version": 4, "channels": {{"0": "bus", "1": "state"}}, {others}
@@ -136,7 +136,7 @@ fn what_the_lead_has_is_none_of_the_run() {
     let names = names(8, bus, state, "");
     let found = account(&["broadcast 1", "watch 0"], &entries, &names);
     assert_eq!(heads(&found), Vec::<&str>::new());
-    assert_eq!(found.unknown, ["1 call was made before the window"]);
+    assert_eq!(found.unknown, ["1 call came before the window"]);
     let nothing = "nothing was found in 3 calls on 2 channels";
     assert_eq!(found.nothing.as_deref(), Some(nothing));
     assert!(found.to_json().contains("\"losses\": [],"));
@@ -229,4 +229,20 @@ fn a_channel_that_is_there_from_its_opening_is_known_in_whole() {
     ];
     assert_eq!(found.facts[0].text(), wanted);
     assert_eq!(found.look, 3);
+}
+
+#[test]
+fn the_report_begins_with_why_there_is_a_dump() {
+    let text = Report::of(night()).text(None, false);
+    let lines: Vec<_> = text.lines().take(4).collect();
+    let wanted = [
+        "yovanelum: dump of 2026-11-29 03:12:45.120 UTC: `audit` lost 84 values of `prices`; calls 82 to 101; 1 to 81 lead to the window",
+        "yovanelum: not all is known: 9999881 calls came before the window",
+        "error: `audit` lost 84 of at most 5000000 values of `prices` (capacity 16)",
+        "  --> src/main.rs:20:9",
+    ];
+    assert_eq!(lines, wanted);
+    let log = sarif(&night());
+    let note = r#"{"level": "note", "message": {"text": "dump of 2026-11-29 03:12:45.120 UTC"#;
+    assert!(log.contains(note), "{log}");
 }

@@ -62,16 +62,19 @@ pub(crate) fn sarif(account: &Account) -> String {
     out
 }
 
-/// What isn't known of the run, as notifications of the tool.
+/// Why there is a dump, and what isn't known of the run, as notifications of the tool.
 fn invocation(account: &Account) -> Option<(&'static str, Json)> {
-    let notification = |line: &String| {
-        let text = format!("not all is known: {line}");
+    let notification = |level: &str, text: &str| {
         Json::object(vec![
-            ("level", Json::text("warning")),
-            ("message", message(&text)),
+            ("level", Json::text(level)),
+            ("message", message(text)),
         ])
     };
-    let notifications: Vec<_> = account.unknown.iter().map(notification).collect();
+    let window = account.window.iter();
+    let window = window.map(|window| notification("note", &window.text));
+    let unknown = account.unknown.iter();
+    let unknown = unknown.map(|line| notification("warning", &format!("not all is known: {line}")));
+    let notifications: Vec<_> = window.chain(unknown).collect();
     let is_needed = !notifications.is_empty();
     let invocation = Json::object(vec![
         ("executionSuccessful", Json::Bool(true)),

@@ -8,4 +8,5 @@ mod past_limit;
 mod storm;
 #[path = "../support/mod.rs"]
 mod support;
+mod told;
 mod windows;

@@ -90,7 +90,7 @@ class Context {
 function unknownIn({ history }, ending) {
   const { unrecorded } = ending;
   const before = Object.values(history.window?.channels ?? {}).reduce((sum, { calls }) => sum + calls, 0);
-  const early = before > 0 ? [`${counted(before, "call")} ${before === 1 ? "was" : "were"} made before the window`] : [];
+  const early = before > 0 ? [`${counted(before, "call")} came before the window`] : [];
   if (unrecorded.calls) early.push(`recording ended at call ${history.length}, before the test did`);
   else if (ending.journal === null && history.channels.some(({ entries }) => entries >= MOST_ENTRIES)) {
     early.push(`the journal ends at call ${history.length}, since a channel has as many as a journal takes`);
