@@ -14,3 +14,4 @@ pub mod Dozers
 pub mod Numbered
 pub mod Played
 pub mod Stamps
+pub mod History

@@ -67,7 +67,8 @@ module _ (x : b_shown.Shown ℕ) where
       (moves h p (b.oldest c) (br.Lagged (number.lag (b.oldest c) p))) (reads h p (c.value p) nothing)
 
   served : (call : BCall ℕ) (kind : Kind) (p : ℕ) → Adds (cond (b.makes call) 1 0) (b.effect_with c call kind p)
-  served (bc.Send h v) kind p = either (b.receivers c == 0) 0 (b.Keep, br.NoReceivers v) (b.Append v, br.Sent (b.receivers c)) (keeps 0 (br.NoReceivers v)) (sends v (br.Sent (b.receivers c)))
+  served (bc.Send h v) kind p = either (b.receivers c == 0) 0 (b.Keep, br.NoReceivers v) (b.Append v, br.Sent (b.receivers c)) (keeps 0
+      (br.NoReceivers v)) (sends v (br.Sent (b.receivers c)))
   served (bc.Subscribe h) kind p = creates Receiver c.sent (br.New (length c.slots))
   served (bc.CloneSender h) kind p = creates Sender 0 (br.New (length c.slots))
   served (bc.Resubscribe h) kind p = creates Receiver c.sent (br.New (length c.slots))
@@ -78,13 +79,15 @@ module _ (x : b_shown.Shown ℕ) where
   served (bc.ReceiverCount h) kind p = keeps 0 (br.Count (b.receivers c))
   served (bc.ReceiverLen h) kind p = keeps 0 (br.Count (number.unread c.sent p))
   served (bc.Downgrade h) kind p = creates Weak 0 (br.New (length c.slots))
-  served (bc.Upgrade h) kind p = either (b.is_closed c) 1 (b.Keep, br.NoSender) (b.make c Sender 0) (keeps 1 br.NoSender) (creates Sender 0 (br.New (length c.slots)))
+  served (bc.Upgrade h) kind p = either (b.is_closed c) 1 (b.Keep, br.NoSender) (b.make c Sender 0) (keeps 1 br.NoSender) (creates Sender 0 (br.New
+      (length c.slots)))
   served (bc.CloneWeak h) kind p = creates Weak 0 (br.New (length c.slots))
 
   found : (call : BCall ℕ) (f : Found ℕ) → Adds (cond (b.makes call) 1 0) (b.effect_found c call f)
   found call (Fault fault) = keeps _ (b.fault_reply fault)
   found call (Handle kind p) =
-      either (b.makes call && nat_le MOST_HANDLES (length c.slots)) (cond (b.makes call) 1 0) (b.Keep, br.TooManyHandles) (b.effect_with c call kind p) (keeps (cond (b.makes call) 1 0) br.TooManyHandles) (served call kind p)
+      either (b.makes call && nat_le MOST_HANDLES (length c.slots)) (cond (b.makes call) 1 0) (b.Keep, br.TooManyHandles) (b.effect_with c call kind p)
+      (keeps (cond (b.makes call) 1 0) br.TooManyHandles) (served call kind p)
 
   made_by_broadcast : (call : BCall ℕ) → Adds (cond (b.makes call) 1 0) (b.effect c call)
   made_by_broadcast call = found call (lookup (b.wanted_kind call) c.slots (b.handle_of call))
@@ -115,7 +118,8 @@ module _ (y : w_shown.Shown ℕ) where
   goes h kind m r = omega (arith, length-set y.slots h Spent)
 
   serves : (call : WCall ℕ) (kind : Kind) (m : Option ℕ) → Adds_to (cond (w.makes call) 1 0) (w.effect_with y call kind m)
-  serves (wc.Send h v) kind m = one_of (w.has_no_receiver y) 0 (w.Keep, wr.NoReceivers v) (w.Write v true, wr.Stored) (stays 0 (wr.NoReceivers v)) (writes v true wr.Stored)
+  serves (wc.Send h v) kind m = one_of (w.has_no_receiver y) 0 (w.Keep, wr.NoReceivers v) (w.Write v true, wr.Stored) (stays 0 (wr.NoReceivers v))
+      (writes v true wr.Stored)
   serves (wc.SendReplace h v) kind m = writes v true (wr.Old y.value)
   serves (wc.Modify told h v) kind m = writes v told (wr.Told told)
   serves (wc.Subscribe h) kind m = adds Receiver (Some y.version) (wr.New (length y.slots))
@@ -125,7 +129,8 @@ module _ (y : w_shown.Shown ℕ) where
   serves (wc.Update h) kind m = marks h m (Some y.version) (wr.Value y.value)
   serves (wc.HasChanged h) kind m = stays 0 (w.has_changed y m)
   serves (wc.Changed h) kind m =
-      one_of (w.is_unseen y.version m) 0 (w.see y h m, wr.Done) (w.Keep, cond (w.is_closed y) wr.Closed wr.Waits) (marks h m (Some y.version) wr.Done) (stays 0 (cond (w.is_closed y) wr.Closed wr.Waits))
+      one_of (w.is_unseen y.version m) 0 (w.see y h m, wr.Done) (w.Keep, cond (w.is_closed y) wr.Closed wr.Waits) (marks h m (Some y.version) wr.Done)
+      (stays 0 (cond (w.is_closed y) wr.Closed wr.Waits))
   serves (wc.MarkChanged h) kind m = marks h m None wr.Done
   serves (wc.MarkUnchanged h) kind m = marks h m (Some y.version) wr.Done
   serves (wc.DropHandle h) kind m = goes h kind m wr.Dropped
@@ -136,7 +141,8 @@ module _ (y : w_shown.Shown ℕ) where
   looked_up : (call : WCall ℕ) (f : Found (Option ℕ)) → Adds_to (cond (w.makes call) 1 0) (w.effect_found y call f)
   looked_up call (Fault fault) = stays _ (w.fault_reply fault)
   looked_up call (Handle kind m) =
-      one_of (w.makes call && nat_le MOST_HANDLES (length y.slots)) (cond (w.makes call) 1 0) (w.Keep, wr.TooManyHandles) (w.effect_with y call kind m) (stays (cond (w.makes call) 1 0) wr.TooManyHandles) (serves call kind m)
+      one_of (w.makes call && nat_le MOST_HANDLES (length y.slots)) (cond (w.makes call) 1 0) (w.Keep, wr.TooManyHandles) (w.effect_with y call kind m)
+      (stays (cond (w.makes call) 1 0) wr.TooManyHandles) (serves call kind m)
 
   made_by_watch : (call : WCall ℕ) → Adds_to (cond (w.makes call) 1 0) (w.effect y call)
   made_by_watch call = looked_up call (lookup (w.wanted_kind call) y.slots (w.handle_of call))

@@ -3,6 +3,7 @@ pub mod Cuts
 pub mod Findings
 pub mod Flights
 pub mod Goals
+pub mod History
 pub mod Kept
 pub mod Leading
 pub mod Playing

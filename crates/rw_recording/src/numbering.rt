@@ -1,7 +1,7 @@
 //! The numbers that a channel's handles have in the journal of its window.
 
 ghost use Rattle.std.specs.Prelude.{◌≡◌, ◌≤◌, ◌<◌, ◌^◌, ℕ, Some, true, length, slice_index, IfOk, IfSome, IfNone};
-ghost use Rattle.rw_recording.specs.Goals.{AreNumbered};
+ghost use Rattle.rw_recording.specs.Goals.{AreNumbered, HasEach};
 ghost use Rattle.rw_recording.specs.Windows.{number_of};
 
 use rw_law::NoMemory;
@@ -75,7 +75,7 @@ impl Numbering {
     /// Whether each live handle has its number.
     fn has_each(&self) -> bool
         requires { length self.now.after.items ≡ length self.now.before.items }
-        ensures { result ≡ true → (i : ℕ) → i < length self.now.before.items → number_of self.now (slice_index self.now.before.items i) ≡ Some (slice_index self.now.after.items i) }
+        ensures { result ≡ true → HasEach self.now }
     {
         for i in 0..self.before.len() {
             if self.number(self.before[i]) != Some(self.after[i]) {

@@ -22,15 +22,13 @@ struct Standing {
 
 impl Standing {
     /// Returns the number by which receivers are sorted: first by position, then by handle.
-    fn order(&self) -> u128
-    {
+    fn order(&self) -> u128 {
         u128::from(self.position) * 4_294_967_296 + u128::from(self.handle)
     }
 }
 
 /// Returns the live receivers, by their positions.
-fn standing(alloc: Global, goal: &Broadcast<u64>) -> Result<Vec<Standing>, NoMemory>
-{
+fn receivers_of(alloc: Global, goal: &Broadcast<u64>) -> Result<Vec<Standing>, NoMemory> {
     let mut receivers = Vec::new(alloc);
     for handle in 0..goal.made() {
         if let Some(position) = goal.position(handle) {
@@ -42,14 +40,12 @@ fn standing(alloc: Global, goal: &Broadcast<u64>) -> Result<Vec<Standing>, NoMem
 }
 
 /// Returns the position of the oldest retained value.
-fn oldest(goal: &Broadcast<u64>) -> u64
-{
+fn oldest(goal: &Broadcast<u64>) -> u64 {
     goal.sent().saturating_sub(goal.capacity())
 }
 
 /// Returns the position from which values are sent: the least of the oldest retained one's and the receivers'.
-fn first_position(goal: &Broadcast<u64>, receivers: &[Standing]) -> u64
-{
+fn first_position(goal: &Broadcast<u64>, receivers: &[Standing]) -> u64 {
     match receivers.first() {
         Some(receiver) => oldest(goal).min(receiver.position),
         None => oldest(goal),
@@ -57,8 +53,7 @@ fn first_position(goal: &Broadcast<u64>, receivers: &[Standing]) -> u64
 }
 
 /// Returns the value of a position. That of an evicted one isn't known: it is 0.
-fn value_at(goal: &Broadcast<u64>, position: u64) -> u64
-{
+fn value_at(goal: &Broadcast<u64>, position: u64) -> u64 {
     match position.checked_sub(oldest(goal)) {
         Some(i) => goal.window(i).unwrap_or(0),
         None => 0,
@@ -134,7 +129,7 @@ pub(crate) fn lead_broadcast(
 ) -> Result<(), WindowFault>
 //~     ensures { leading.new ≡ leading.old }
 {
-    let receivers = standing(alloc, goal)?;
+    let receivers = receivers_of(alloc, goal)?;
     let first = first_position(goal, &receivers);
     if goal.sent().saturating_sub(first) > MOST_ENTRIES as u64 {
         return Err(WindowFault::TooLong);

@@ -38,8 +38,7 @@ impl From<NoMemory> for WindowFault {
 
 impl WindowFault {
     /// Returns why a window isn't made if one of its calls isn't.
-    pub(crate) fn of(fault: TakeFault) -> WindowFault
-    {
+    pub(crate) fn of(fault: TakeFault) -> WindowFault {
         match fault {
             TakeFault::JournalFull => WindowFault::TooLong,
             TakeFault::NoMemory => WindowFault::NoMemory,

@@ -70,7 +70,7 @@ impl Leading {
     }
 
     /// Has the handle of this number stand for handle h of the other channel.
-    pub fn stand(&mut self, h: u32, number: u32)
+    pub(crate) fn stand(&mut self, h: u32, number: u32)
 //~         ensures { self.new ≡ self.old }
     {
         if (h as usize) < self.numbers.len() {
@@ -79,7 +79,7 @@ impl Leading {
     }
 
     /// Makes a call that creates a handle, which stands for handle h of the other channel.
-    pub fn make_for(&mut self, h: u32, call: ChanCall<u64>) -> Result<(), WindowFault>
+    pub(crate) fn make_for(&mut self, h: u32, call: ChanCall<u64>) -> Result<(), WindowFault>
 //~         ensures { self.new ≡ self.old }
     {
         let reply = self.make(call)?;

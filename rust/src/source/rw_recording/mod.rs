@@ -13,6 +13,7 @@ mod faults;
 mod findings;
 mod flight;
 mod kept;
+mod laws;
 mod lead;
 mod leading;
 mod numbering;
@@ -26,10 +27,10 @@ pub use faults::WindowFault;
 pub use findings::Findings;
 pub use flight::{Flight, MOST_NUMBERED_WEIGHT};
 pub use kept::Kept;
+pub use laws::windows_show_history;
 pub use lead::{Dozing, Lead};
 pub use recording::Recording;
 pub use run_reader::RunReader;
-pub use window::Window;
 pub use crate::source::rw_broadcast::{BCall, BReply};
 pub use crate::source::rw_findings::{
     BroadcastCounts, Closing, Counts, LateReader, Loss, LossEnd, Totals, WatchCounts,
@@ -40,3 +41,4 @@ pub use crate::source::rw_law::{Entry, NoMemory};
 pub use crate::source::rw_text::TextFault;
 pub use crate::source::rw_watch::{WCall, WReply};
 pub use crate::source::rw_world::{ChanCall, ChanReply, OpenFault, RowCall, Spec, World};
+pub use window::Window;

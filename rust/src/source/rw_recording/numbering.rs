@@ -3,7 +3,7 @@
 use crate::shim::Vec; //+
 
 //~ ghost use Rattle.std.specs.Prelude.{◌≡◌, ◌≤◌, ◌<◌, ◌^◌, ℕ, Some, true, length, slice_index, IfOk, IfSome, IfNone};
-//~ ghost use Rattle.rw_recording.specs.Goals.{AreNumbered};
+//~ ghost use Rattle.rw_recording.specs.Goals.{AreNumbered, HasEach};
 //~ ghost use Rattle.rw_recording.specs.Windows.{number_of};
 
 use crate::source::rw_law::NoMemory;
@@ -77,7 +77,7 @@ impl Numbering {
     /// Whether each live handle has its number.
     fn has_each(&self) -> bool
 //~         requires { length self.now.after.items ≡ length self.now.before.items }
-//~         ensures { result ≡ true → (i : ℕ) → i < length self.now.before.items → number_of self.now (slice_index self.now.before.items i) ≡ Some (slice_index self.now.after.items i) }
+//~         ensures { result ≡ true → HasEach self.now }
     {
         for i in 0..self.before.len() {
             if self.number(self.before[i]) != Some(self.after[i]) {
@@ -93,24 +93,11 @@ impl Numbering {
 //~         ensures none { IfNone result (IfSome (number_of self.now handle) (λ number. 2 ^ 32 ≤ number)) }
     {
         let Some(place) = self.places.get(handle as usize) else {
-            let later = u64::from(handle) - self.places.len() as u64;
-            return fitting(u64::from(self.made) + later);
+            return self.made.checked_add(handle - self.places.len() as u32);
         };
         match self.before.get(*place as usize) {
             Some(own) if *own == handle => self.after.get(*place as usize).copied(),
             _ => None,
         }
-    }
-}
-
-/// Returns the number, if it is below 2^32.
-fn fitting(number: u64) -> Option<u32>
-//~     ensures some { IfSome result (λ same. number ≡ same) }
-//~     ensures none { IfNone result (2 ^ 32 ≤ number) }
-{
-    if number < 4_294_967_296 {
-        Some(number as u32)
-    } else {
-        None
     }
 }

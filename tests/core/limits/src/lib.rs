@@ -83,6 +83,8 @@ limits! {
     "merge_calls" of 1_048_576, 2 s: recorded::merged_calls;
     "Recording::call" to 1_048_576, 2 s: recorded::recording;
     "Recording::call, after its end" of 2_097_152, 2 s: recorded::unrecorded;
+    "Lead::play" to 1_048_576, 8 s: recorded::window;
+    "Kept::lead, handles" to 65_534, 2 s: recorded::window_handles;
     "Cut::add" to 64, 2 s: recorded::cut_channels;
     "Cut::run, RunReader::read" of 1_048_576, 8 s: recorded::cut_calls;
     "Desk::open, actors" to 64, 2 s: desks::actors;

@@ -7,7 +7,8 @@ use proved::rw_journal::{
 };
 use proved::rw_journal::{entries_of, merge_all, merge_calls};
 use proved::rw_law::Entry;
-use proved::rw_recording::{Cut, CutFault, Recording, RunReader};
+use proved::rw_recording::{Cut, CutFault, Flight, Recording, RunReader, WindowFault};
+use proved::rw_watch::{WCall, WReply};
 use proved::rw_world::{Chan, ChanCall, ChanReply, RowCall, Spec};
 use proved::{Global, Vec};
 
@@ -178,4 +179,45 @@ pub fn cut_calls(size: u64) -> bool {
     let mut reader = RunReader::read(Global, &text).unwrap();
     let calls = std::iter::from_fn(|| reader.next_call());
     cut.run(Global).unwrap().len() == size && calls.count() as u64 == size
+}
+
+/// A window of so many entries: the lead of a broadcast that retains 1,024 values and has a receiver that lags, and the last sends.
+pub fn window(size: u64) -> bool {
+    const LEAD: u64 = 1_025;
+    let chunk = 524_288;
+    let mut flight = Flight::open(Global, Spec::Broadcast(1_024), chunk as usize).unwrap();
+    for value in 0..3 * chunk - 1 {
+        assert_eq!(flight.call(0, value, send(value)), Ok(SENT));
+    }
+    let mut kept = flight.kept(Global).unwrap();
+    assert_eq!((kept.dropped(), kept.len()), (chunk, 2 * chunk - 1));
+    kept.skip(Global, kept.len() - (size - LEAD)).unwrap();
+    let lead = kept.lead(Global, 1, 0).unwrap();
+    assert_eq!(lead.len(), LEAD);
+    match lead.play(0) {
+        Ok(window) => window.recording().len() == size,
+        Err(fault) => {
+            assert_eq!(fault, WindowFault::TooLong);
+            false
+        }
+    }
+}
+
+/// A window of a channel with so many handles. Two more are for those that a channel opens with.
+pub fn window_handles(size: u64) -> bool {
+    let mut flight = Flight::open(Global, Spec::Watch(0), 524_288).unwrap();
+    for made in 2..size {
+        let call = ChanCall::W(WCall::CloneSender(0));
+        let new = ChanReply::W(WReply::New(made as u32));
+        assert_eq!(flight.call(0, made, call), Ok(new));
+    }
+    let mut kept = flight.kept(Global).unwrap();
+    kept.skip(Global, kept.len()).unwrap();
+    match kept.lead(Global, 1, 0) {
+        Ok(lead) => lead.len() == size + 1,
+        Err(fault) => {
+            assert_eq!(fault, WindowFault::TooLong);
+            false
+        }
+    }
 }

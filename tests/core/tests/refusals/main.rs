@@ -10,6 +10,7 @@ mod callers;
 mod calls;
 mod comparisons;
 mod desks;
+mod flights;
 mod hand_offs;
 mod journals;
 mod lines;
@@ -67,6 +68,11 @@ fn renumberings() {
 #[test]
 fn recent_calls() {
     is_answered(recent_calls::play, include_str!("said/recent_calls.txt"));
+}
+
+#[test]
+fn flights() {
+    is_answered(flights::play, include_str!("said/flights.txt"));
 }
 
 #[test]

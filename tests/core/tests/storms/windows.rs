@@ -266,7 +266,10 @@ fn go_on(random: &mut Random, spec: Spec<u64>) {
     let kept = flight.kept(Global).unwrap();
     let first = stamps.get(flight.dropped() as usize).copied();
     assert_eq!(kept.first_stamp(), first);
-    assert_eq!((kept.len(), kept.dropped()), (flight.len(), flight.dropped()));
+    assert_eq!(
+        (kept.len(), kept.dropped()),
+        (flight.len(), flight.dropped())
+    );
 }
 
 #[test]
