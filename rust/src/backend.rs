@@ -197,13 +197,18 @@ impl Recording {
     #[cold]
     #[inline(never)]
     fn call_apart(&mut self, caller: Caller, call: impl FnOnce() -> ChanCall<u64>) -> Reply {
-        let (actor, clock) = (caller.actor.number(), caller.clock);
-        // Apart, so that neither result is copied to where the other one is.
-        if let Some(flight) = &mut self.last {
-            return Reply::of(&flight.call(actor, clock, call()));
+        match &mut self.last {
+            Some(flight) => call_last(flight, caller, call),
+            None => Reply::of(&self.all.call(caller.actor.number(), caller.clock, call())),
         }
-        Reply::of(&self.all.call(actor, clock, call()))
     }
+}
+
+/// Makes a call that is kept among the last ones.
+// Apart once more, so that calls which aren't recorded save no registers for it.
+#[inline(never)]
+fn call_last(flight: &mut Flight, caller: Caller, call: impl FnOnce() -> ChanCall<u64>) -> Reply {
+    Reply::of(&flight.call(caller.actor.number(), caller.clock, call()))
 }
 
 /// Goes on from a recording that hasn't ended with its last calls alone.
