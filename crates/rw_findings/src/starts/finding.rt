@@ -16,7 +16,7 @@ use std::alloc::Global;
 
 /// Finds where the losses of a run began: which value was the first that was lost, and where the receiver had received last.
 ///
-/// A debugger goes over the run once, with a copy of it. Besides that it needs 8 bytes a handle.
+/// A debugger goes over the run once, with a copy of it, if there is a loss. Besides that it needs 8 bytes a handle.
 pub fn starts_of<V: Copy>(
     alloc: Global,
     run: &Run<V>,
@@ -27,9 +27,12 @@ pub fn starts_of<V: Copy>(
 {
     machines::<V>();
     documented::<V>();
+    let mut starts = Vec::with_capacity(alloc, losses.len())?;
+    if losses.is_empty() {
+        return Ok(starts);
+    }
     let mut debugger = Debugger::open(alloc, run)?;
     let mut given = Peaks::new(alloc);
-    let mut starts = Vec::with_capacity(alloc, losses.len())?;
     let mut place = 0;
     for loss in losses {
         follow_to(alloc, run, &mut given, place, loss.from)?;
