@@ -1,0 +1,91 @@
+//! A run that was read once, to be asked again and again.
+
+ghost use Rattle.std.specs.Prelude.{◌≡◌, ◌++◌, IfOk, IfSome, IfNone, OnOk};
+ghost use Rattle.rw_law.specs.Numbers.{numbers};
+ghost use Rattle.std.specs.Prelude.{Ok};
+ghost use Rattle.rw_text.specs.Reading.{reading_of};
+ghost use Rattle.rw_page.specs.HeldPages.{HasFault, state_line};
+
+use rw_blocks::push_json;
+use rw_journal::Run;
+use rw_law::NoMemory;
+use rw_navigator::{Debugger, Move};
+use rw_text::TextFault;
+use std::alloc::{AllocError, Global};
+use std::marker::Model;
+
+/// A run, and a debugger that keeps its place in it, so that the way to the next state is short.
+#[derive(Drop)]
+pub struct Opened {
+    run: Run<u64>,
+    debugger: Debugger<u64>,
+}
+
+impl Model for Opened {
+    ghost use Rattle.std.specs.Prelude.{◌≡◌, ℕ};
+    ghost use Rattle.rw_journal.specs.Run.{Run as Seen};
+
+    ghost Value = { Seen ℕ };
+
+    ghost view = { λ o. o.run };
+
+    ghost invariant = { λ o. o.debugger.run ≡ o.run };
+}
+
+impl Opened {
+    /// Opens a debugger over a run.
+    fn over(alloc: Global, run: Run<u64>) -> Result<Opened, NoMemory>
+        ensures { IfOk result (λ opened. opened ≡ run) }
+    {
+        match Debugger::open(alloc, &run) {
+            Ok(debugger) => Ok(Opened { run, debugger }),
+            Err(NoMemory) => {
+                drop(run);
+                Err(NoMemory)
+            }
+        }
+    }
+
+    /// Opens the run of a journal text, or returns `None` if the text has a fault.
+    pub fn of_text(alloc: Global, journal: &[u8]) -> Result<Option<Opened>, NoMemory>
+        ensures run { IfOk result (λ read. IfSome read (λ opened. reading_of numbers journal.now ≡ Ok opened)) }
+        ensures fault { IfOk result (λ read. IfNone read (HasFault journal.now)) }
+    {
+        let run = match rw_text::read::<u64>(alloc, journal) {
+            Ok(run) => run,
+            Err(TextFault::NoMemory) => return Err(NoMemory),
+            Err(_) => return Ok(None),
+        };
+        let opened = Opened::over(alloc, run)?;
+        Ok(Some(opened))
+    }
+
+    /// Returns the run.
+    pub fn run(&self) -> &Run<u64>
+        ensures { result.now ≡ self.now }
+    {
+        &self.run
+    }
+
+    /// Appends the line with the state of a place, if there is such a place.
+    pub fn push_state(
+        &mut self,
+        alloc: Global,
+        out: &mut Vec<u8>,
+        place: u64,
+    ) -> Result<(), AllocError>
+        ensures line { OnOk result (out.new.items ≡ out.old.items ++ state_line self.old place) }
+        ensures run { self.new ≡ self.old }
+    {
+        if self.debugger.step(Move::Goto(place)).is_err() {
+            return Ok(());
+        }
+        push_json(
+            alloc,
+            out,
+            self.debugger.state(),
+            self.debugger.len(),
+            place,
+        )
+    }
+}
