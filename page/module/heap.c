@@ -1,6 +1,7 @@
 /* The heap of the module: a free list for each size, over memory that the module grows itself. There are four sizes from one power of two to the
    next, so that a block is at most a third larger than what was asked for, from 64 bytes on. A header of 16 bytes before each block has the number
-   of its size, so that blocks are aligned to 16. Memory is never returned to the browser. Refusals are counted. */
+   of its size, so that blocks are aligned to 16. The last block grows and is freed where it is: entries that are read need no second place then, and
+   copies of them leave none. Memory is never returned to the browser. Refusals are counted. */
 typedef unsigned char byte;
 typedef unsigned long word;
 typedef struct { word is_there; byte *block; } Tried;
@@ -58,8 +59,24 @@ static byte *take(word size) {
   return block;
 }
 
+/* Whether no block is above this one. */
+static int is_last(byte *block) { return (word)block + size_of(*number_before(block)) == top; }
+
+/* Moves the end of the last block, if there is room, so that it has this size. */
+static int resized(byte *block, word size) {
+  word number = number_of(size), before = size_of(*number_before(block));
+  if (size > (word)1 << MOST_POWER || !is_last(block) || !has_room(size_of(number) - before)) return 0;
+  top += size_of(number) - before;
+  *number_before(block) = number;
+  return 1;
+}
+
 static void give(byte *block) {
   word number = *number_before(block);
+  if (is_last(block)) {
+    top = (word)block - HEAD;
+    return;
+  }
   *(byte **)block = freed[number];
   freed[number] = block;
 }
@@ -71,7 +88,7 @@ Tried rattle_alloc(word size, word align) {
 }
 
 Tried rattle_realloc(byte *block, word kept, word size, word align) {
-  if (align <= HEAD && size <= size_of(*number_before(block))) return (Tried){1, block};
+  if (align <= HEAD && (size <= size_of(*number_before(block)) || resized(block, size))) return (Tried){1, block};
   Tried moved = rattle_alloc(size, align);
   if (!moved.is_there) return (Tried){0, block};
   __builtin_memcpy(moved.block, block, kept);

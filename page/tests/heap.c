@@ -31,8 +31,14 @@ int main(void) {
   want(host_refused() == 3, "each refused alignment is counted");
   Tried grown = rattle_realloc(block.block, 64, 128, 16);
   want(grown.is_there && *grown.block == 17, "a block that grows keeps its bytes");
-  rattle_dealloc(grown.block);
+  want(grown.block == block.block, "the last block grows where it is");
+  Tried last = rattle_alloc(64, 16);
+  want(last.block >= grown.block + 128, "a block lies behind one that grew");
+  Tried moved = rattle_realloc(grown.block, 128, 1024, 16);
+  want(moved.is_there && moved.block > last.block && *moved.block == 17, "a block with another behind it grows elsewhere, and keeps its bytes");
   want(rattle_alloc(128, 16).block == grown.block, "a block that was freed is allocated again");
+  rattle_dealloc(moved.block);
+  want(rattle_alloc(2048, 16).block == moved.block, "the place of the last block, once freed, is free for any size");
   want(!rattle_alloc(1 << 20, 16).is_there && host_refused() == 4, "a block that has no room is refused, and that is counted");
   want(!rattle_alloc((uintptr_t)1 << 50, 16).is_there && host_refused() == 5, "a size of no block is refused, and that is counted");
   int count = 0;
