@@ -26,11 +26,7 @@ pub fn answers_page(
 }
 
 /// Returns the lines with the states of these places.
-pub fn states_page(
-    alloc: Global,
-    opened: &mut Opened,
-    places: &[u64],
-) -> Result<Vec<u8>, NoMemory>
+pub fn states_page(alloc: Global, opened: &mut Opened, places: &[u64]) -> Result<Vec<u8>, NoMemory>
     ensures text { IfOk result (λ text. text.items ≡ state_lines opened.old places.now) }
     ensures run { opened.new ≡ opened.old }
 {

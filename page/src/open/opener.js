@@ -214,8 +214,7 @@ export class Opener {
     if (source.names) run.rename(namesFor(run, source.names, source.namesFile) ?? run.names);
     byId("facts").replaceChildren(...factsOf(source, run));
     this.page.walk = this.walkOver(run);
-    this.page.walk.loadFindings();
-    this.page.walk.loadWhole();
+    this.page.walk.loadAll();
   }
 
   // Shows a run, or its beginning, at the place in the address.
