@@ -42,5 +42,5 @@ abbrev pub LacksOne : (List ℕ → Type 0) → (buffer : List ℕ) → (count :
 LacksOne Is buffer count = (text : List ℕ) × Is text × Lacks buffer count text
 
 -- the text is that of a run's losses
-abbrev pub IsLossText : Run ℕ → List ℕ → Type 0
+unfoldable pub IsLossText : Run ℕ → List ℕ → Type 0
 IsLossText run text = IsLossReport (Ok run) text

@@ -47,6 +47,7 @@ fn push_losses(out: &mut Vec<u8>, losses: &[Loss]) -> Result<(), AllocError>
 }
 
 /// Returns a line for each loss of a run.
+#[tactic(auto, unfolding(crate::specs::HeldPages::IsLossText))]
 pub fn losses_text(alloc: Global, run: &Run<u64>) -> Result<Vec<u8>, NoMemory>
     ensures { IfOk result (λ text. IsLossText run.now text.items) }
 {
@@ -57,6 +58,7 @@ pub fn losses_text(alloc: Global, run: &Run<u64>) -> Result<Vec<u8>, NoMemory>
 }
 
 /// Returns a line for each loss of a run, or its journal text's first fault.
+#[tactic(auto, unfolding(crate::specs::HeldPages::IsLossText))]
 pub fn losses_page(alloc: Global, journal: &[u8]) -> Result<Vec<u8>, NoMemory>
     ensures { IfOk result (λ text. IsLossPage journal.now text.items) }
 {
