@@ -85,7 +85,8 @@ pub extern "C" fn ttd_ask(
     ensures limit { result < 2 → IfSome held.old.run (λ run. IsWithin MOST_BYTES (answers_of run) commands.now) }
     ensures same { held.new.run ≡ held.old.run }
 {
-    let opened = held.take(alloc);
+    let mut opened = held.take(alloc);
+    opened.rest();
     let answered = hand_over(answers_page(alloc, &opened, commands), out, count);
     held.put(opened);
     answered
@@ -156,7 +157,8 @@ pub extern "C" fn ttd_held_found(
     ensures none { result ≡ 2 → count.new ≡ count.old }
     ensures same { held.new.run ≡ held.old.run }
 {
-    let opened = held.take(alloc);
+    let mut opened = held.take(alloc);
+    opened.rest();
     let answered = hand_over(found_text(alloc, opened.run()), out, count);
     held.put(opened);
     answered

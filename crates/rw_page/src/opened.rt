@@ -14,50 +14,39 @@ use rw_text::TextFault;
 use std::alloc::{AllocError, Global};
 use std::marker::Model;
 
-/// A run, and a debugger that keeps its place in it, so that the way to the next state is short.
+/// A run, and a debugger that keeps its place in it, so that the way to the next state is short. There is none while others need
+/// its memory, which is that of another run.
 #[derive(Drop)]
 pub struct Opened {
     run: Run<u64>,
-    debugger: Debugger<u64>,
+    debugger: Option<Debugger<u64>>,
 }
 
 impl Model for Opened {
-    ghost use Rattle.std.specs.Prelude.{◌≡◌, ℕ};
+    ghost use Rattle.std.specs.Prelude.{◌≡◌, ℕ, IfSome};
     ghost use Rattle.rw_journal.specs.Run.{Run as Seen};
 
     ghost Value = { Seen ℕ };
 
     ghost view = { λ o. o.run };
 
-    ghost invariant = { λ o. o.debugger.run ≡ o.run };
+    ghost invariant = { λ o. IfSome o.debugger (λ debugger. debugger.run ≡ o.run) };
 }
 
 impl Opened {
-    /// Opens a debugger over a run.
-    fn over(alloc: Global, run: Run<u64>) -> Result<Opened, NoMemory>
-        ensures { IfOk result (λ opened. opened ≡ run) }
-    {
-        match Debugger::open(alloc, &run) {
-            Ok(debugger) => Ok(Opened { run, debugger }),
-            Err(NoMemory) => {
-                drop(run);
-                Err(NoMemory)
-            }
-        }
-    }
-
     /// Opens the run of a journal text, or returns `None` if the text has a fault.
     pub fn of_text(alloc: Global, journal: &[u8]) -> Result<Option<Opened>, NoMemory>
         ensures run { IfOk result (λ read. IfSome read (λ opened. reading_of numbers journal.now ≡ Ok opened)) }
         ensures fault { IfOk result (λ read. IfNone read (HasFault journal.now)) }
     {
-        let run = match rw_text::read::<u64>(alloc, journal) {
-            Ok(run) => run,
-            Err(TextFault::NoMemory) => return Err(NoMemory),
-            Err(_) => return Ok(None),
-        };
-        let opened = Opened::over(alloc, run)?;
-        Ok(Some(opened))
+        match rw_text::read::<u64>(alloc, journal) {
+            Ok(run) => Ok(Some(Opened {
+                run,
+                debugger: None,
+            })),
+            Err(TextFault::NoMemory) => Err(NoMemory),
+            Err(_) => Ok(None),
+        }
     }
 
     /// Returns the run.
@@ -67,25 +56,46 @@ impl Opened {
         &self.run
     }
 
+    /// Drops the debugger, and leaves its memory to others.
+    pub fn rest(&mut self)
+        ensures { self.new ≡ self.old }
+    {
+        drop(self.debugger.take());
+    }
+
     /// Appends the line with the state of a place, if there is such a place.
     pub fn push_state(
         &mut self,
         alloc: Global,
         out: &mut Vec<u8>,
         place: u64,
-    ) -> Result<(), AllocError>
+    ) -> Result<(), NoMemory>
         ensures line { OnOk result (out.new.items ≡ out.old.items ++ state_line self.old place) }
         ensures run { self.new ≡ self.old }
     {
-        if self.debugger.step(Move::Goto(place)).is_err() {
-            return Ok(());
-        }
-        push_json(
-            alloc,
-            out,
-            self.debugger.state(),
-            self.debugger.len(),
-            place,
-        )
+        let mut debugger = match self.debugger.take() {
+            Some(debugger) => debugger,
+            None => Debugger::open(alloc, &self.run)?,
+        };
+        let pushed = push_state_of(alloc, out, &mut debugger, place);
+        self.debugger = Some(debugger);
+        pushed?;
+        Ok(())
     }
+}
+
+/// Goes to a place and appends the line with its state, if there is such a place.
+fn push_state_of(
+    alloc: Global,
+    out: &mut Vec<u8>,
+    debugger: &mut Debugger<u64>,
+    place: u64,
+) -> Result<(), AllocError>
+    ensures line { OnOk result (out.new.items ≡ out.old.items ++ state_line debugger.old.run place) }
+    ensures run { debugger.new.run ≡ debugger.old.run }
+{
+    if debugger.step(Move::Goto(place)).is_err() {
+        return Ok(());
+    }
+    push_json(alloc, out, debugger.state(), debugger.len(), place)
 }
