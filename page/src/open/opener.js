@@ -27,7 +27,7 @@ import { unpacked } from "./unpacked.js";
 
 // The first calls of a long journal text are shown while all of it is read. In bytes: from which length on a text is long, and how much of it is its
 // beginning.
-const LONG = 8 << 20;
+const LONG = 2 << 20;
 const BEGINNING = 64 << 10;
 const LINE_END = 10;
 const END = new TextEncoder().encode("end\n");
