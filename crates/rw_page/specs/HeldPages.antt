@@ -3,16 +3,14 @@ use Rattle.std.specs.Prelude.{◌≡◌, ℕ, nat_le, if◌then◌else◌, List,
 use Rattle.std.specs.List.{flat_map}
 use Rattle.rw_blocks.specs.Json.{json_text}
 use Rattle.rw_console.specs.Report.{commands_report}
-use Rattle.rw_findings.specs.declared.peaks.measure.Stretches.{Stretches}
 use Rattle.rw_journal.specs.Run.{Run}
 use Rattle.rw_law.specs.Numbers.{numbers}
 use Rattle.rw_navigator.specs.Places.{last_place, shown_at}
 use Rattle.rw_text.specs.declared.faults.TextFault.{TextFault}
 use Rattle.rw_text.specs.Reading.{reading_of}
-use Rattle.rw_page.specs.FoundLines.{IsFoundText}
 use Rattle.rw_page.specs.LossLines.{IsLossReport}
 use Rattle.rw_page.specs.Pages.{Holds, Lacks}
-use Rattle.rw_page.specs.PeakLines.{AreChannelTexts}
+use Rattle.rw_page.specs.PeakLines.{AreChannelTexts, stretches_of}
 
 -- the run that is held is the one whose journal text the bytes are
 abbrev pub HoldsRunOf : Option (Run ℕ) → List ℕ → Type 0
@@ -44,3 +42,7 @@ LacksOne Is buffer count = (text : List ℕ) × Is text × Lacks buffer count te
 -- the text is that of a run's losses
 unfoldable pub IsLossText : Run ℕ → List ℕ → Type 0
 IsLossText run text = IsLossReport (Ok run) text
+
+-- the text is that of the peaks of these channels in so many stretches
+abbrev pub AreLevels : Run ℕ → (from each count : ℕ) → (channels : List ℕ) → List ℕ → Type 0
+AreLevels run from each count channels text = AreChannelTexts run (stretches_of from each count) channels text

@@ -6,9 +6,8 @@
 
 ghost use Rattle.std.specs.Prelude.{◌≡◌, ◌≤◌, ◌<◌, ◌↔◌, length, IfSome, IsSome, None};
 ghost use Rattle.rw_page.specs.FoundLines.{IsFoundText};
-ghost use Rattle.rw_page.specs.HeldPages.{HasFault, HoldsOne, HoldsRunOf, IsLossText, LacksOne, answers_of, state_lines};
+ghost use Rattle.rw_page.specs.HeldPages.{AreLevels, HasFault, HoldsOne, HoldsRunOf, IsLossText, LacksOne, answers_of, state_lines};
 ghost use Rattle.rw_page.specs.Pages.{Fits, Holds, IsWithin, Lacks};
-ghost use Rattle.rw_page.specs.PeakLines.{AreChannelTexts, stretches_of};
 ghost use Rattle.rw_page.specs.declared.TheConstants.{MOST_STRETCHES};
 
 use crate::MOST_STRETCHES;
@@ -178,9 +177,9 @@ pub extern "C" fn ttd_held_levels(
 ) -> u8
     requires opened { IsSome held.old.run }
     ensures known { result ≤ 2 }
-    ensures answer { result ≡ 0 → IfSome held.old.run (λ run. HoldsOne (AreChannelTexts run (stretches_of from each stretches) channels.now) out.new count.new) }
-    ensures room { result ≡ 1 → IfSome held.old.run (λ run. LacksOne (AreChannelTexts run (stretches_of from each stretches) channels.now) out.new count.new) }
-    ensures fits { result < 2 → IfSome held.old.run (λ run. Fits (AreChannelTexts run (stretches_of from each stretches) channels.now) result out.old) }
+    ensures answer { result ≡ 0 → IfSome held.old.run (λ run. HoldsOne (AreLevels run from each stretches channels.now) out.new count.new) }
+    ensures room { result ≡ 1 → IfSome held.old.run (λ run. LacksOne (AreLevels run from each stretches channels.now) out.new count.new) }
+    ensures fits { result < 2 → IfSome held.old.run (λ run. Fits (AreLevels run from each stretches channels.now) result out.old) }
     ensures kept { 0 < result → out.new ≡ out.old }
     ensures none { result ≡ 2 → count.new ≡ count.old }
     ensures limit { MOST_STRETCHES < stretches → result ≡ 2 }
