@@ -15,7 +15,7 @@
 mod closing_lines;
 mod found_lines;
 mod held;
-mod held_exports;
+pub mod held_exports;
 mod held_pages;
 mod life_lines;
 mod lines;

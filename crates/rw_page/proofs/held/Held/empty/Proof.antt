@@ -1,11 +1,10 @@
 -- `empty` is a null pointer.
-use Rattle.std.proofs.Common.{◌≡◌, List, [], ◌∷◌, ◌++◌, refl, sym, subst, w64}
+use Rattle.std.proofs.Common.{◌≡◌, [], ◌∷◌, refl, w64}
 use lib.Dec.{lit<}
 use mir.Syntax.{Fn}
 use mir.Val.{Val, vint, vstruct, vcons, vnil}
-use base.Logic.{SProp, ent, emp, id⊢}
+use base.Logic.{SProp, emp}
 use base.Fml.{ftrue}
-use prog.Wp.{WpFn}
 use types.Kit.{‵, raw, ◌⊛◌, ◌$◌, ◌∵◌, !, qed, by, move, keep, drop, split, use0}
 use types.Run.{lit, no_more, and_then, returns, enter}
 use types.ByLocal.{alloc_all, pass_all, free_all, look_at, sets}
@@ -14,7 +13,7 @@ use contract.Monad.{fact, fact_i}
 use contract.Running.{tables}
 use denote.RattleType.{owns}
 use denote.Signature.{types_at}
-use denote.RawPtr.{null_ptr, ptr_val}
+use denote.RawPtr.{null_ptr}
 use denote.Steps.{nothing}
 use denote.Triple.Entry.{alive}
 use denote.Triple.Walked.{Stays, walk_of}

@@ -1,12 +1,10 @@
 -- `into_loose` takes a held pointer.
-use Rattle.std.proofs.Common.{◌≡◌, List, [], ◌∷◌, ◌++◌, refl, sym, ap, ◌∙◌, subst}
-use mir.Syntax.{Fn, impl, tnil, dnil}
-use mir.Val.{Val, vptr, vstruct, vcons, vnil}
-use base.Logic.{SProp, ent, emp, never, id⊢}
-use base.Fml.{ftrue}
+use Rattle.std.proofs.Common.{◌≡◌, List, [], ◌∷◌, ◌++◌, refl, sym, subst}
+use mir.Syntax.{Fn}
+use mir.Val.{Val, vptr}
+use base.Logic.{SProp, ent, emp, id⊢}
 use prog.Wp.{WpFn}
-use types.Logic.{sem}
-use types.Kit.{‵, raw, ◌⊛◌, prop, ◌$◌, ◌∵◌, !, qed, by, move, keep, drop, split, join, regoal, fsplit, fjoin, suffices, use0}
+use types.Kit.{‵, raw, ◌⊛◌, ◌$◌, ◌∵◌, !, qed, by, move, keep, split, fsplit, fjoin, suffices, use0}
 use types.Run.{stop, fld, of_opd, no_more, and_then, returns, enter}
 use types.ByLocal.{alloc_all, pass_all, free_all, look_at, get, get_in, sets}
 use types.Part.{agg, sub, whole}
@@ -17,7 +15,6 @@ use denote.RattleType.{RattleType, owns}
 use denote.Signature.{types_at, plain}
 use denote.RawPtr.{block_ptr}
 use denote.Steps.{nothing, heard}
-use denote.Param.{layout}
 use denote.Triple.Entry.{alive}
 use denote.Triple.Walked.{Stays, stay_dropped, walk_of}
 use Rattle.core.proofs.alloc.Calls.{Goes-blank, handle_tells}
@@ -28,7 +25,7 @@ use Rattle.std_heap.specs.contracts.GlobalAllocator.TheImpl.{ghosts}
 use Rattle.std_heap.proofs.Global.TheLaws as heap_laws
 use Rattle.rw_page.specs.contracts.opened.Opened as opened
 use Rattle.rw_page.specs.contracts.held.Held as held
-use Rattle.rw_page.proofs.Pointers.{both, one_ptr, Loose, al, loose_good, loose_in, held_out}
+use Rattle.rw_page.proofs.Pointers.{both, one_ptr, al, loose_good, loose_in, held_out}
 use Rattle.rw_page.specs.contracts.held.Held.into_loose.{ended, clauses}
 use Rattle.rw_page.specs.contracts.held.Held.into_loose.Key.{name as #self}
 use Rattle.rw_page.proofs.held.Held.into_loose.Statement.{statement}
