@@ -8,7 +8,6 @@ ghost use Rattle.std.specs.Prelude.{◌≡◌, ◌≤◌, ◌<◌, ◌↔◌, le
 ghost use Rattle.rw_page.specs.FoundLines.{IsFoundText};
 ghost use Rattle.rw_page.specs.HeldPages.{AreLevels, HasFault, HoldsOne, HoldsRunOf, IsLossText, LacksOne, answers_of, state_lines};
 ghost use Rattle.rw_page.specs.Pages.{Fits, Holds, IsWithin, Lacks};
-ghost use Rattle.rw_page.specs.declared.TheConstants.{MOST_STRETCHES};
 
 use crate::MOST_STRETCHES;
 use crate::found_lines::found_text;
