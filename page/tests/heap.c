@@ -39,6 +39,18 @@ int main(void) {
   want(rattle_alloc(128, 16).block == grown.block, "a block that was freed is allocated again");
   rattle_dealloc(moved.block);
   want(rattle_alloc(2048, 16).block == moved.block, "the place of the last block, once freed, is free for any size");
+  Tried first = rattle_alloc(5000, 16), second = rattle_alloc(5000, 16), third = rattle_alloc(5000, 16), fourth = rattle_alloc(5000, 16);
+  rattle_dealloc(second.block);
+  rattle_dealloc(third.block);
+  want(rattle_alloc(5000, 16).block == third.block && rattle_alloc(5000, 16).block == second.block, "free blocks of a size are allocated again");
+  rattle_dealloc(second.block);
+  rattle_dealloc(third.block);
+  rattle_dealloc(fourth.block);
+  want(rattle_alloc(14000, 16).block == second.block, "the free blocks below the last one are free with it, for any size");
+  rattle_dealloc(second.block);
+  rattle_dealloc(first.block);
+  want(rattle_alloc(9000, 16).block == first.block, "so is all behind a block that is freed then");
+  rattle_dealloc(first.block);
   want(!rattle_alloc(1 << 20, 16).is_there && host_refused() == 4, "a block that has no room is refused, and that is counted");
   want(!rattle_alloc((uintptr_t)1 << 50, 16).is_there && host_refused() == 5, "a size of no block is refused, and that is counted");
   int count = 0;
