@@ -1,18 +1,15 @@
 // The debugger, in a thread beside the page's own: each request is a message, and gets one message as its reply.
 
 import { inflated } from "./base/inflating.js";
-import { isJournal, questions } from "./run/opened_text.js";
 import { accountOf } from "./worker/account/account.js";
 import { comparedWith } from "./worker/against/difference.js";
 import { Debugger } from "./worker/debugger.js";
-import { foundIn, levelsIn, salvagedFrom } from "./worker/exports.js";
+import { foundIn, levelsIn, salvagedFrom, statesIn } from "./worker/exports.js";
 import { openRun } from "./worker/opening.js";
 
 // The debugger, once it is unpacked. Requests wait for it, and are answered in their order.
 let starting = null;
 let engine = null;
-let ask = null;
-let heading = "";
 // The opened run as a journal text, also where a script was opened, its channels at the start, how many calls it has, and what was found in it.
 let journal = null;
 let channels = [];
@@ -27,31 +24,32 @@ const requests = {
     return starting;
   },
   open(bytes, places) {
-    ask = questions(engine, bytes);
-    const text = isJournal(bytes) ? bytes : null;
-    const opened = openRun(engine, ask, places, text);
-    heading = opened.heading;
+    const opened = openRun(engine, bytes, places);
     channels = opened.opening?.channels ?? [];
     journal = opened.journal;
     lastPlace = opened.lastPlace;
     found = { losses: opened.losses, totals: null, closings: null };
     // The page has the text that it sent.
-    return { ...opened, journal: text ? null : journal };
+    return { ...opened, journal: journal === bytes ? null : journal };
   },
   // What is found in the whole run. What an account is made of stays here too.
   found() {
-    const { closings, totals, ...others } = foundIn(engine, journal, channels.length);
+    const { closings, totals, ...others } = foundIn(engine, channels.length);
     Object.assign(found, { closings, totals });
+    // The findings had the memory of the debugger, which would open again only at the next jump.
+    statesIn(engine, [0]);
     return { closings, totals, ...others };
   },
   // It is asked for once the findings are there.
   account: names => accountOf(journal, channels, lastPlace, found, names),
   // How the opened run differs from another run of the same test: its journal, its channels at the start, and how many calls it has.
   against: (other, names, otherNames) => comparedWith({ journal, channels, lastPlace, names }, { ...other, names: otherNames }),
-  levels: (wanted, from, each, count) => levelsIn(engine, journal, channels, wanted, from, each, count),
+  levels: (wanted, from, each, count) => levelsIn(engine, channels, wanted, from, each, count),
   // What is left of a truncated journal text, or null.
   salvage: bytes => salvagedFrom(engine, bytes),
-  ask: commands => text(ask(commands)).slice(heading.length),
+  // The states at some places of the opened run, and what commands write over it.
+  states: places => statesIn(engine, places),
+  ask: commands => text(engine.ofHeld("ttd_ask", [new TextEncoder().encode(commands)])),
   debug: (journal, commands) => text(engine.debug(journal, commands)),
   session: input => text(engine.session(input)),
 };

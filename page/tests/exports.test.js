@@ -18,7 +18,7 @@ value 0 1 18446744073709551615 4 -
 value 2 0 5 0 -
 `;
 
-const found = (lines, count) => foundIn({ call: () => new TextEncoder().encode(lines) }, new Uint8Array(), count);
+const found = (lines, count) => foundIn({ ofHeld: () => new TextEncoder().encode(lines) }, count);
 
 test("closings, and who was there", () => {
   const { places, told, readOn } = found(LINES, 3).closings;

@@ -36,8 +36,8 @@ def load_first(tab, path, seconds=PATIENCE):
 
 
 def settle(tab, place=None, seconds=PATIENCE):
-    """Waits until a run is shown with what is counted in it, and the state at its place."""
-    shown = ("!document.getElementById('walk').hidden && !document.getElementById('losses').hasAttribute('aria-busy')"
+    """Waits until a run is shown, and not its beginning alone, with what is counted in it, and the state at its place."""
+    shown = ("!document.getElementById('walk').hidden && !['walk', 'losses'].some(it => document.getElementById(it).hasAttribute('aria-busy'))"
              " && document.getElementById('state').dataset.place")
     tab.wait(f"{shown} !== undefined" if place is None else f"{shown} === '{place}'", seconds)
 

@@ -21,10 +21,19 @@ LONG, FIRST_PAINT = 1_000_000, 2
 MARGIN, BUSY = 2, 50
 IDLE = 0.8
 
-# A pool of so many channels, actors and calls, and the seconds of processors that all processes of the browser may take until its first picture,
-# from there until what is found in it is shown, for a jump to a place whose states aren't loaded, and for the answer to a stop.
-POOL, JUMP = (64, 64, 100_000), 77_777
-PROCESSOR_SECONDS = {"first picture": 1.5, "findings": 4.5, "cold jump": 0.4, "stop": 0.2}
+# By the channels, actors and calls of a pool, the seconds of processors that the tab may take until its first picture, from there until what is
+# found in it is shown, for a jump to a place whose states aren't loaded, and for the answer to a stop. A machine that is slow or busy takes up to
+# three times as long.
+JUMP_AND_STOP = {"cold jump": 0.1, "stop": 0.1}
+POOLS = {
+    (64, 64, 100_000): {"first picture": 0.5, "findings": 1, **JUMP_AND_STOP},
+    (16, 16, 1_000_000): {"first picture": 1, "findings": 3, **JUMP_AND_STOP},
+}
+PROCESSOR_MARGIN = 3
+
+# How far into a pool its jump leads, and how many megabytes the tab's process may have had by then.
+JUMP, MOST_MEGABYTES = 0.77, 600
+MEGABYTE_MARGIN = 1.2
 
 # When the state at the first place is shown.
 WATCH = """new MutationObserver((_, observer) => {
@@ -74,39 +83,46 @@ def factor(idle):
     return MARGIN if idle >= IDLE else BUSY
 
 
-def processor_seconds(browser):
-    """What the processes of a browser have taken of processors so far: each process with the one that started it."""
-    starters, times = {}, {}
+def processor_seconds(tab):
+    """What the tab's process has taken of processors so far. The browser has pages of its own, which are others'."""
+    return next(it["value"] for it in tab.call("Performance.getMetrics")["metrics"] if it["name"] == "ProcessTime")
+
+
+def most_megabytes():
+    """The most that a process of a page has had of memory."""
+    most = 0
     for name in filter(str.isdigit, os.listdir("/proc")):
         try:
-            with open(f"/proc/{name}/stat", encoding="utf-8") as file:
-                fields = file.read().rpartition(") ")[2].split()
+            with open(f"/proc/{name}/cmdline", "rb") as words, open(f"/proc/{name}/status", encoding="utf-8") as status:
+                if b"--type=renderer" in words.read():
+                    most = max([most, *(int(line.split()[1]) >> 10 for line in status if line.startswith("VmHWM"))])
         except OSError:
             continue
-        starters[int(name)], times[int(name)] = int(fields[1]), (int(fields[11]) + int(fields[12])) / os.sysconf("SC_CLK_TCK")
-    family = {browser.process.pid}
-    while more := {process for process, starter in starters.items() if starter in family} - family:
-        family |= more
-    return sum(times.get(process, 0) for process in family)
+    return most
 
 
-def pool(tab, folder):
-    """What a pool of many channels takes of processors, which a busy machine changes less than the time that passes."""
-    path = opening.page_of(folder, "speed_pool.journal", real_runs.pool_of(*POOL)[0])
+def pool(tab, folder, size, promised):
+    """What a pool takes of processors, which a busy machine changes less than the time that passes."""
+    path = opening.page_of(folder, "speed_pool.journal", real_runs.pool_of(*size)[0])
+    jump = int(JUMP * size[2])
     waits = {
         "first picture": lambda: (tab.load(path), tab.wait("window.shownAt")),
-        "findings": lambda: opening.settle(tab),
-        "cold jump": lambda: (tab.run(f"location.hash = '#call={JUMP}'"), opening.settle(tab, JUMP)),
+        "findings": lambda: (tab.wait("document.getElementById('walk').getAttribute('aria-busy') === null"), opening.settle(tab)),
+        "strip": lambda: tab.run("ttd.ask('')"),
+        "cold jump": lambda: (tab.run(f"location.hash = '#call={jump}'"), opening.settle(tab, jump)),
         "stop": lambda: tab.run("ttd.ask('start\\nrforward reply lagged\\n')"),
     }
     tab.load(native.PAGE)
-    took, since = {}, processor_seconds(tab.browser)
+    took, since = {}, processor_seconds(tab)
     for name, wait in waits.items():
         wait()
-        until = processor_seconds(tab.browser)
+        until = processor_seconds(tab)
         took[name], since = until - since, until
-    print(f"  {POOL[2]:,} calls on {POOL[0]} channels, seconds of processors: " + ", ".join(f"{name} {taken:.2f}" for name, taken in took.items()))
-    assert all(taken < MARGIN * PROCESSOR_SECONDS[name] for name, taken in took.items()), "takes more of processors than it may"
+    megabytes = most_megabytes()
+    print(f"  {size[2]:,} calls on {size[0]} channels, seconds of processors: " + ", ".join(f"{name} {taken:.2f}" for name, taken in took.items())
+          + f"; {megabytes} MB")
+    assert all(took[name] < PROCESSOR_MARGIN * most for name, most in promised.items()), "takes more of processors than it may"
+    assert megabytes < MEGABYTE_MARGIN * MOST_MEGABYTES, "takes more of memory than it may"
 
 
 def mean_step(tab):
@@ -139,4 +155,6 @@ def figures(tab, folder, journals):
               f"{100 * idle:.0f} % of the machine were idle")
         assert open_time < factor(idle) * most_open and max(near, far) < factor(idle) * most_step, "slower than it may be"
     first_paint(tab, folder)
-    pool(tab, folder)
+    tab.call("Performance.enable")
+    for size, promised in POOLS.items():
+        pool(tab, folder, size, promised)

@@ -1,1 +1,2 @@
 pub mod PeakTexts
+pub mod Pointers

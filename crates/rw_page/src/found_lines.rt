@@ -24,6 +24,15 @@ fn push_found(alloc: Global, out: &mut Vec<u8>, run: &Run<u64>) -> Result<(), No
     Ok(())
 }
 
+/// Returns the lines of all that is found in a run.
+pub fn found_text(alloc: Global, run: &Run<u64>) -> Result<Vec<u8>, NoMemory>
+    ensures { IfOk result (λ text. IsFoundText run.now text.items) }
+{
+    let mut text = Vec::new(alloc);
+    push_found(alloc, &mut text, run)?;
+    Ok(text)
+}
+
 /// Returns the lines of all that is found in a run, or its journal text's first fault.
 pub fn found_page(alloc: Global, journal: &[u8]) -> Result<Vec<u8>, NoMemory>
     ensures { IfOk result (λ text. IsFoundPage journal.now text.items) }
@@ -32,7 +41,5 @@ pub fn found_page(alloc: Global, journal: &[u8]) -> Result<Vec<u8>, NoMemory>
         Ok(run) => run,
         Err(line) => return Ok(line),
     };
-    let mut text = Vec::new(alloc);
-    push_found(alloc, &mut text, &run)?;
-    Ok(text)
+    found_text(alloc, &run)
 }

@@ -14,9 +14,14 @@
 
 mod closing_lines;
 mod found_lines;
+mod held;
+pub mod held_exports;
+mod held_pages;
 mod life_lines;
 mod lines;
+mod loose;
 mod loss_lines;
+mod opened;
 mod pages;
 mod peak_lines;
 mod salvages;
@@ -123,7 +128,7 @@ pub extern "C" fn ttd_found(alloc: Global, journal: &[u8], out: &mut [u8], count
 }
 
 /// The greatest number of stretches that `ttd_levels` accepts.
-const MOST_STRETCHES: u64 = 65_536;
+pub(crate) const MOST_STRETCHES: u64 = 65_536;
 
 /// Reads a journal text, and writes the peaks of the receivers of some channels to the start of `out`: how much each lagged, how
 /// much it had to receive, or whether it had not seen a watch's value, at most in each stretch of places.

@@ -2,11 +2,13 @@
 
 ghost use Rattle.std.specs.Prelude.{◌≡◌, ◌++◌, IfOk, OnOk};
 ghost use Rattle.std.specs.List.{flat_map};
+ghost use Rattle.rw_page.specs.HeldPages.{IsLossText};
 ghost use Rattle.rw_page.specs.LossLines.{IsLossPage, end_words, loss_line};
 
 use crate::lines::push_with_number;
 use crate::pages::read_run;
 use rw_findings::{Loss, LossEnd, losses_of};
+use rw_journal::Run;
 use rw_law::NoMemory;
 use std::alloc::{AllocError, Global};
 
@@ -44,7 +46,19 @@ fn push_losses(out: &mut Vec<u8>, losses: &[Loss]) -> Result<(), AllocError>
     Ok(())
 }
 
+/// Returns a line for each loss of a run.
+#[tactic(auto, unfolding(crate::specs::HeldPages::IsLossText))]
+pub fn losses_text(alloc: Global, run: &Run<u64>) -> Result<Vec<u8>, NoMemory>
+    ensures { IfOk result (λ text. IsLossText run.now text.items) }
+{
+    let losses = losses_of(alloc, run)?;
+    let mut text = Vec::new(alloc);
+    push_losses(&mut text, &losses)?;
+    Ok(text)
+}
+
 /// Returns a line for each loss of a run, or its journal text's first fault.
+#[tactic(auto, unfolding(crate::specs::HeldPages::IsLossText))]
 pub fn losses_page(alloc: Global, journal: &[u8]) -> Result<Vec<u8>, NoMemory>
     ensures { IfOk result (λ text. IsLossPage journal.now text.items) }
 {
@@ -52,8 +66,5 @@ pub fn losses_page(alloc: Global, journal: &[u8]) -> Result<Vec<u8>, NoMemory>
         Ok(run) => run,
         Err(line) => return Ok(line),
     };
-    let losses = losses_of(alloc, &run)?;
-    let mut text = Vec::new(alloc);
-    push_losses(&mut text, &losses)?;
-    Ok(text)
+    losses_text(alloc, &run)
 }

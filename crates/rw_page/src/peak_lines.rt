@@ -157,6 +157,20 @@ fn push_channels(
     Ok(())
 }
 
+/// Returns the peaks of the receivers of these channels.
+pub fn peaks_text(
+    alloc: Global,
+    run: &Run<u64>,
+    stretches: Stretches,
+    channels: &[u8],
+) -> Result<Vec<u8>, NoMemory>
+    ensures { IfOk result (λ text. AreChannelTexts run.now stretches channels.now text.items) }
+{
+    let mut text = Vec::new(alloc);
+    push_channels(alloc, &mut text, run, stretches, channels)?;
+    Ok(text)
+}
+
 /// Returns the peaks of the receivers of these channels, or the journal text's first fault.
 pub fn peaks_page(
     alloc: Global,
@@ -170,7 +184,5 @@ pub fn peaks_page(
         Ok(run) => run,
         Err(line) => return Ok(line),
     };
-    let mut text = Vec::new(alloc);
-    push_channels(alloc, &mut text, &run, stretches, channels)?;
-    Ok(text)
+    peaks_text(alloc, &run, stretches, channels)
 }

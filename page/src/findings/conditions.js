@@ -5,12 +5,11 @@ import { isolated } from "../base/text.js";
 const MOST_RECEIVERS = 16;
 const HIT = /^hit (\d+) of/;
 
-// Conditions on calls have an index in the debugger. Others are looked for from call to call, so that a search without a hit takes long: of these the
-// first hits are found in small parts.
+// Conditions on calls have an index in the debugger, which each request makes again, so that their hits are asked for in few parts. Others are looked
+// for from call to call, so that a search without a hit takes long: of these the first hits are found in small parts.
 const OF_CALLS = /^(actor|channel|reply) /;
-const MANY = { atOnce: 4096, most: 10_000 };
-const FEW = { atOnce: 64, most: 1000 };
-const FIRST = 8;
+const MANY = { first: 10_000, atOnce: 10_000, most: 10_000 };
+const FEW = { first: 8, atOnce: 64, most: 1000 };
 
 // Searches for the nearest hit of some conditions by `rback` or `rforward`. Returns the line that the console writes for it, its place, if there is
 // one, and the condition.
@@ -27,9 +26,9 @@ export async function seek(run, place, word, conditions) {
 
 // Returns all hits of a condition, or as many as are looked for, and whether there are no more. It is null where `isOver` says that nobody waits for them.
 export async function hitsOfCondition(run, condition, isOver) {
-  const { atOnce, most } = OF_CALLS.test(condition) ? MANY : FEW;
+  const { first, atOnce, most } = OF_CALLS.test(condition) ? MANY : FEW;
   const places = [];
-  for (let count = FIRST; places.length < most; count = Math.min(2 * count, atOnce)) {
+  for (let count = first; places.length < most; count = Math.min(2 * count, atOnce)) {
     const answers = (await run.ask(`goto ${places.at(-1) ?? 0}\n${`rforward ${condition}\n`.repeat(count)}`)).split("\n").slice(1, count + 1);
     if (isOver()) return null;
     const found = answers.map(line => HIT.exec(line)).filter(hit => hit !== null).map(([, place]) => Number(place));

@@ -411,6 +411,12 @@ export class Walk {
     if (!this.isLeft) this.redraw();
   }
 
+  // Loads what isn't there yet of the whole run. The debugger makes the account only after the findings, so what is needed last is asked for last.
+  async loadAll() {
+    await this.loadFindings();
+    if (!this.isLeft) await this.loadWhole();
+  }
+
   // Loads what is counted in the whole run, and shows it: closings, the table, and the sends that overwrote values.
   async loadFindings() {
     byId("losses").setAttribute("aria-busy", "true");

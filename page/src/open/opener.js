@@ -28,7 +28,7 @@ import { unpacked } from "./unpacked.js";
 
 // The first calls of a long journal text are shown while all of it is read. In bytes: from which length on a text is long, and how much of it is its
 // beginning.
-const LONG = 8 << 20;
+const LONG = 2 << 20;
 const BEGINNING = 64 << 10;
 const LINE_END = 10;
 const END = new TextEncoder().encode("end\n");
@@ -217,8 +217,7 @@ export class Opener {
     if (source.names) run.rename(namesFor(run, source.names, source.namesFile) ?? run.names);
     byId("facts").replaceChildren(...factsOf(source, run));
     this.page.walk = this.walkOver(run);
-    this.page.walk.loadFindings();
-    this.page.walk.loadWhole();
+    this.page.walk.loadAll();
   }
 
   // Shows a run, or its beginning, at the place in the address.

@@ -1,4 +1,4 @@
-// The opened text: a journal text or a script, and how commands are run over it.
+// The opened text: a journal text or a script.
 
 const JOURNAL_BEGINS = "ttd-journal";
 const LINE_END = 10;
@@ -26,10 +26,7 @@ function joined(front, back) {
   return whole;
 }
 
-// Returns a function from commands to the bytes that they write over the opened text.
-export function questions(engine, bytes) {
-  const encoder = new TextEncoder();
-  if (isJournal(bytes)) return commands => engine.debug(bytes, encoder.encode(commands));
-  const script = joined(scriptPart(bytes), encoder.encode("---\n"));
-  return commands => engine.session(joined(script, encoder.encode(commands)));
+// Returns the input of a session in which these commands follow a script.
+export function asSession(script, commands) {
+  return joined(scriptPart(script), new TextEncoder().encode(`---\n${commands}`));
 }

@@ -7,7 +7,7 @@ import { behindLead, lostBefore, numberOf, timeOf, windowOf } from "./lead.js";
 import { Losses } from "./losses.js";
 import { MARK_NAMES } from "./marks.js";
 import { Scanner } from "./scanner.js";
-import { commandsFor, readStates } from "./states.js";
+import { readStates } from "./states.js";
 import { Values } from "./values.js";
 import { waitsOf } from "./waiting.js";
 
@@ -331,7 +331,7 @@ export class Run {
     const states = [];
     for (let done = 0; done < places.length;) {
       const some = places.slice(done, done + Math.ceil(MOST_ASKED / this.stateLength));
-      const text = await this.ask(commandsFor(some));
+      const text = await this.client.request("states", some);
       this.stateLength = Math.max(this.stateLength, text.length / some.length);
       states.push(...readStates(text));
       done += some.length;

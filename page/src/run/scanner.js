@@ -19,9 +19,11 @@ export class Scanner {
   }
 
   number() {
+    const { bytes } = this;
+    let { at } = this;
     let value = 0;
-    while (this.bytes[this.at] >= ZERO) value = value * 10 + this.bytes[this.at++] - ZERO;
-    this.at++;
+    while (bytes[at] >= ZERO) value = value * 10 + bytes[at++] - ZERO;
+    this.at = at + 1;
     return value;
   }
 
@@ -33,25 +35,32 @@ export class Scanner {
   }
 
   word() {
-    const start = this.at;
+    const { bytes, at: start } = this;
+    let at = start;
     let sum = 0;
-    while (this.bytes[this.at] > SPACE) sum = (FACTOR * sum + this.bytes[this.at++]) | 0;
+    while (bytes[at] > SPACE) sum = (FACTOR * sum + bytes[at++]) | 0;
+    this.at = at + 1;
+    const length = at - start;
     const known = this.words.get(sum);
-    const length = this.at++ - start;
-    if (known?.length === length && isSame(known, this.bytes, start)) return known;
-    const word = String.fromCharCode(...this.bytes.subarray(start, start + length));
+    if (known?.length === length && isSame(known, bytes, start)) return known;
+    const word = String.fromCharCode(...bytes.subarray(start, at));
     this.words.set(sum, word);
     return word;
   }
 
   // Moves past the next such byte, unless the last byte passed was one.
   goBehind(byte) {
-    while (this.bytes[this.at - 1] !== byte) this.at++;
+    const { bytes } = this;
+    let { at } = this;
+    while (bytes[at - 1] !== byte) at++;
+    this.at = at;
   }
 
   // Moves past the next such byte.
   skipBehind(byte) {
-    while (this.bytes[this.at] !== byte) this.at++;
-    this.at++;
+    const { bytes } = this;
+    let { at } = this;
+    while (bytes[at] !== byte) at++;
+    this.at = at + 1;
   }
 }

@@ -21,10 +21,6 @@ export function readState(line) {
   return kept(JSON.parse(line.replace(LONG_NUMBER, '"$&"')));
 }
 
-export function commandsFor(places) {
-  return places.map(place => `goto ${place}\nstate json\n`).join("");
-}
-
 export function readStates(text) {
-  return text.split("\n").filter(line => line.startsWith("{")).map(readState);
+  return text.split("\n").slice(0, -1).map(readState);
 }

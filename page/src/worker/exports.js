@@ -1,5 +1,5 @@
 // What the debugger finds in a run beside what its commands write: losses, totals, closings, handles, values, levels by stretches of places, and what
-// is left of a truncated journal text. It reads them from journal texts.
+// is left of a truncated journal text. But for that it is asked of the run that is held.
 
 import { Scanner } from "../run/scanner.js";
 
@@ -55,10 +55,15 @@ export function journalOf({ channels }, listing) {
   return new TextEncoder().encode(`ttd-journal 2\n${heads.join("")}steps\n${decoded(listing).replace(/^#\d+ /gm, "")}end\n`);
 }
 
+// Returns the lines with the states at these places, without those that there aren't.
+export function statesIn(engine, places) {
+  return decoded(engine.ofHeld("ttd_states", [BigUint64Array.from(places, BigInt)]));
+}
+
 // Returns the losses of a run, those that are open with the place after the last as their end.
 /** @returns {Loss[]} */
-export function lossesIn(engine, journal, lastPlace) {
-  return linesOf(engine.call("ttd_losses", [journal])).map(line => {
+export function lossesIn(engine, lastPlace) {
+  return linesOf(engine.ofHeld("ttd_held_losses")).map(line => {
     const [, channel, receiver, from, lost, end, to = lastPlace + 1] = LOSS.exec(line);
     return {
       channel: Number(channel), receiver: Number(receiver), from: Number(from), lost: Number(lost),
@@ -67,10 +72,10 @@ export function lossesIn(engine, journal, lastPlace) {
   });
 }
 
-// Returns all else that is found in a run, by one reading of its journal text. The lines of each kind come after another, and each kind begins with other
+// Returns all else that is found in a run. The lines of each kind come after another, and each kind begins with other
 // letters.
-export function foundIn(engine, journal, count) {
-  const scanner = new Scanner(engine.call("ttd_found", [journal]));
+export function foundIn(engine, count) {
+  const scanner = new Scanner(engine.ofHeld("ttd_held_found"));
   return { closings: closingsIn(scanner, count), totals: totalsIn(scanner), lives: livesIn(scanner), columns: valuesIn(scanner, count) };
 }
 
@@ -154,8 +159,8 @@ function valuesIn(scanner, count) {
 // Returns the greatest levels of the receivers of some channels in stretches of `each` places from `from` on, with their spans. There is a line for
 // each of very many receivers, mostly with zeros, so its bytes are read one by one. Lags are the losses', so their lines are passed over.
 /** @param {ChannelState[]} heads */
-export function levelsIn(engine, journal, heads, channels, from, each, count) {
-  const bytes = engine.call("ttd_levels", [journal, Uint8Array.from(channels)], [from, each, count].map(BigInt));
+export function levelsIn(engine, heads, channels, from, each, count) {
+  const bytes = engine.ofHeld("ttd_held_levels", [Uint8Array.from(channels)], [from, each, count].map(BigInt));
   const scanner = new Scanner(bytes);
   const rows = [];
   while (scanner.at < bytes.length) {

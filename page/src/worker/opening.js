@@ -2,8 +2,9 @@
 
 import { markOf } from "../run/marks.js";
 import { Scanner } from "../run/scanner.js";
-import { commandsFor, readState } from "../run/states.js";
-import { journalOf, lossesIn } from "./exports.js";
+import { asSession, isJournal } from "../run/opened_text.js";
+import { readState, readStates } from "../run/states.js";
+import { journalOf, lossesIn, statesIn } from "./exports.js";
 
 // The entries of a journal text in columns, for a picture of very many entries: each column is an array by the entry's number, from 1 on.
 // `starts` has where each entry's line begins in the text, and at its end where the next one would.
@@ -94,7 +95,6 @@ class Lives {
 
 const FAULT = /^(journal|script) fault (.*)$/;
 const WAITS = /^would wait (\d+)$/;
-const PLACE = /^place 0 of (\d+)$/;
 
 // Reads line by line from the front of some bytes.
 class Front {
@@ -110,35 +110,36 @@ class Front {
   }
 }
 
-// Reads the states at these places. If a place doesn't exist, the state before it is repeated.
-function statesAt(places, front) {
-  return places.map(() => {
-    front.line();
-    return readState(front.line());
-  });
-}
-
-// `engine` is the debugger, and `ask` returns the bytes that commands write, after a heading if a call of the script would wait. The states at `places` are read
-// together with the opening, since each request reads the whole journal. `text` is the journal text, or null for a script: its entries are listed.
+// Holds the run of an opened text. Returns its journal text and, of a script, the line with the call that would wait; or else what is wrong with the text.
 // A run has one journal text, so the lines of one that the debugger has read are the entries.
-export function openRun(engine, ask, places, text) {
-  const front = new Front(ask(`${commandsFor([0, ...places])}end\nstate json\n${text ? "" : "list\n"}`));
+function held(engine, bytes) {
+  const isText = isJournal(bytes);
+  if (isText && engine.hold(bytes)) return { journal: bytes, waitingLine: null };
+  const front = new Front(isText ? engine.debug(bytes, new Uint8Array()) : engine.session(asSession(bytes, "goto 0\nstate json\nlist\n")));
   const first = front.line();
   const fault = FAULT.exec(first);
-  if (fault) return { fault: { of: fault[1], text: fault[2] }, heading: "" };
+  if (fault) return { fault: { of: fault[1], text: fault[2] } };
   const waits = WAITS.exec(first);
-  const lastPlace = Number(PLACE.exec(waits ? front.line() : first)[1]);
-  const opening = readState(front.line());
-  const states = statesAt(places, front);
-  const [ending] = statesAt([lastPlace], front);
+  // The place that `goto` led to.
+  if (waits) front.line();
+  const journal = journalOf(readState(front.line()), front.rest);
+  if (!engine.hold(journal)) throw new Error("the journal of the script's run is refused");
+  return { journal, waitingLine: waits && Number(waits[1]) };
+}
+
+// Opens a journal text or a script. The states at `places` are read together with the opening, as far as there are such places.
+export function openRun(engine, bytes, places) {
+  const { fault, journal, waitingLine } = held(engine, bytes);
+  if (fault) return { fault };
+  const [opening] = readStates(statesIn(engine, [0]));
+  const lastPlace = opening.len;
+  const states = readStates(statesIn(engine, [...places, lastPlace]));
   const lives = new Lives(opening.channels.length, lastPlace);
-  const journal = text ?? journalOf(opening, front.rest);
   const columns = readColumns(journal, opening.channels.length, lastPlace, lives);
   return {
-    lastPlace, opening, states, ending, journal, columns,
-    losses: lossesIn(engine, journal, lastPlace),
+    lastPlace, opening, states, ending: states.at(-1), journal, columns,
+    losses: lossesIn(engine, lastPlace),
     lives: lives.channels,
-    heading: waits ? `${first}\n` : "",
-    waitingLine: waits && Number(waits[1]),
+    waitingLine,
   };
 }

@@ -13,6 +13,12 @@ const SLOT_END: &[u8] = b"</script>\n";
 
 const JOURNAL_START: &[u8] = b"<script type=\"text/plain\" id=\"journal\">\n";
 
+const PIECE_START: &[u8] = b"<script type=\"text/plain\" class=\"journal\">\n";
+
+/// How many bytes of a journal an element has. WebKit takes minutes to read all of a long one in
+/// one element.
+const PIECE: usize = 1 << 20;
+
 const DIGITS: &[u8; 64] = b"ABCDEFGHIJKLMNOPQRSTUVWXYZabcdefghijklmnopqrstuvwxyz0123456789+/";
 
 /// Returns the page with a run inside: the name of the journal's file, its text, which was
@@ -37,9 +43,12 @@ pub(crate) fn with_run(
     // An accepted journal has lower-case words and numbers alone, so it is put in as it is. It may
     // be a hundred times as long as the rest.
     assert!(!journal.contains(&b'<'), "no journal was accepted");
-    out.extend_from_slice(JOURNAL_START);
-    out.extend_from_slice(journal);
-    out.extend_from_slice(SLOT_END);
+    for (number, piece) in journal.chunks(PIECE).enumerate() {
+        let start = if number == 0 { JOURNAL_START } else { PIECE_START };
+        out.extend_from_slice(start);
+        out.extend_from_slice(piece);
+        out.extend_from_slice(SLOT_END);
+    }
     out.extend_from_slice(&page[at + SLOT.len()..]);
     Some(out)
 }
@@ -106,6 +115,17 @@ mod tests {
         let out = with_run(page, "a.journal", b"foob\n", b"fooba").unwrap();
         assert_eq!(String::from_utf8(out).unwrap(), wanted);
         assert_eq!(with_run(b"<html></html>\n", "a", b"", b""), None);
+    }
+
+    #[test]
+    fn a_long_journal_is_in_several_elements() {
+        let page = b"<html>\n<script type=\"text/plain\" id=\"run\"></script>\n</html>\n";
+        let journal = b"1 0 0 send 0 7 = sent 1\n".repeat(100_000);
+        let out = with_run(page, "a.journal", &journal, b"").unwrap();
+        let text = String::from_utf8(out).unwrap();
+        let pieces: Vec<_> = text.split("journal\">\n").skip(1).collect();
+        let joined: Vec<_> = pieces.iter().map(|it| it.split("</script>").next().unwrap()).collect();
+        assert_eq!((pieces.len(), joined.concat().as_bytes()), (3, &journal[..]));
     }
 
     #[test]

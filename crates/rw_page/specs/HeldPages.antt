@@ -1,0 +1,48 @@
+-- The output that a page gets of the run that it holds.
+use Rattle.std.specs.Prelude.{◌≡◌, ℕ, nat_le, if◌then◌else◌, List, [], ◌++◌, Option, Some, Ok, Err, codes}
+use Rattle.std.specs.List.{flat_map}
+use Rattle.rw_blocks.specs.Json.{json_text}
+use Rattle.rw_console.specs.Report.{commands_report}
+use Rattle.rw_journal.specs.Run.{Run}
+use Rattle.rw_law.specs.Numbers.{numbers}
+use Rattle.rw_navigator.specs.Places.{last_place, shown_at}
+use Rattle.rw_text.specs.declared.faults.TextFault.{TextFault}
+use Rattle.rw_text.specs.Reading.{reading_of}
+use Rattle.rw_page.specs.LossLines.{IsLossReport}
+use Rattle.rw_page.specs.Pages.{Holds, Lacks}
+use Rattle.rw_page.specs.PeakLines.{AreChannelTexts, stretches_of}
+
+-- the run that is held is the one whose journal text the bytes are
+abbrev pub HoldsRunOf : Option (Run ℕ) → List ℕ → Type 0
+HoldsRunOf held journal = (run : Run ℕ) × (held ≡ Some run) × (reading_of numbers journal ≡ Ok run)
+
+-- the bytes are no journal text
+abbrev pub HasFault : List ℕ → Type 0
+HasFault journal = (fault : TextFault) × (reading_of numbers journal ≡ Err fault)
+
+-- what commands write over a run, from its last place on
+abbrev pub answers_of : Run ℕ → List ℕ → List ℕ
+answers_of run commands = commands_report run (last_place run) commands
+
+-- the line with the state of a place, as the command `state json` writes it: none where there is no such place
+abbrev pub state_line : Run ℕ → (place : ℕ) → List ℕ
+state_line run place = if nat_le place (last_place run) then json_text (shown_at run place) (last_place run) place ++ codes "\n" else []
+
+-- the same for some places, in order
+abbrev pub state_lines : Run ℕ → (places : List ℕ) → List ℕ
+state_lines run places = flat_map (state_line run) places
+
+-- a text of this kind is at the start of a buffer, or the buffer is too small for it
+abbrev pub HoldsOne : (List ℕ → Type 0) → (buffer : List ℕ) → (count : ℕ) → Type 0
+HoldsOne Is buffer count = (text : List ℕ) × Is text × Holds buffer count text
+
+abbrev pub LacksOne : (List ℕ → Type 0) → (buffer : List ℕ) → (count : ℕ) → Type 0
+LacksOne Is buffer count = (text : List ℕ) × Is text × Lacks buffer count text
+
+-- the text is that of a run's losses
+unfoldable pub IsLossText : Run ℕ → List ℕ → Type 0
+IsLossText run text = IsLossReport (Ok run) text
+
+-- the text is that of the peaks of these channels in so many stretches
+abbrev pub AreLevels : Run ℕ → (from each count : ℕ) → (channels : List ℕ) → List ℕ → Type 0
+AreLevels run from each count channels text = AreChannelTexts run (stretches_of from each count) channels text
