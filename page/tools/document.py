@@ -19,14 +19,19 @@ def read(*path):
         return file.read()
 
 
-def script(folder, name):
-    """One script of a module and all that it imports. It is bundled inside its folder, so that no path from outside is in it."""
+def bundled(folder, name, *words):
+    """What esbuild makes of a file in this folder, so that no path from outside is in it."""
     try:
-        made = subprocess.run(["esbuild", f"{name}.js", *BUNDLE], cwd=folder, stdout=subprocess.PIPE, check=True).stdout.decode()
+        return subprocess.run(["esbuild", name, *words], cwd=folder, stdout=subprocess.PIPE, check=True).stdout.decode()
     except FileNotFoundError:
         raise Refused("esbuild isn't there, which bundles the page's scripts: apt-get install esbuild") from None
     except subprocess.CalledProcessError:
-        raise Refused(f"{name}.js and what it imports can't be bundled") from None
+        raise Refused(f"{name} and what it imports can't be bundled") from None
+
+
+def script(folder, name):
+    """One script of a module and all that it imports."""
+    made = bundled(folder, f"{name}.js", *BUNDLE)
     if "</script" in made.lower():
         raise Refused("a script would end the element that it stands in")
     return made
@@ -49,7 +54,8 @@ def module_of(made):
 
 def page(folder, module):
     source = os.path.join(folder, "src")
-    style, main = read(source, "style.css"), script(source, "main")
+    style = bundled(source, "style.css", "--charset=utf8", "--minify-whitespace", "--log-level=warning")
+    main = script(source, "main")
     parts = {
         "style": style, "style hash": hash_of(style), "main": main, "main hash": hash_of(main),
         "worker": script(source, "worker"), "module": packed(module),
