@@ -44,7 +44,11 @@ pub(crate) fn with_run(
     // be a hundred times as long as the rest.
     assert!(!journal.contains(&b'<'), "no journal was accepted");
     for (number, piece) in journal.chunks(PIECE).enumerate() {
-        let start = if number == 0 { JOURNAL_START } else { PIECE_START };
+        let start = if number == 0 {
+            JOURNAL_START
+        } else {
+            PIECE_START
+        };
         out.extend_from_slice(start);
         out.extend_from_slice(piece);
         out.extend_from_slice(SLOT_END);
@@ -124,8 +128,14 @@ mod tests {
         let out = with_run(page, "a.journal", &journal, b"").unwrap();
         let text = String::from_utf8(out).unwrap();
         let pieces: Vec<_> = text.split("journal\">\n").skip(1).collect();
-        let joined: Vec<_> = pieces.iter().map(|it| it.split("</script>").next().unwrap()).collect();
-        assert_eq!((pieces.len(), joined.concat().as_bytes()), (3, &journal[..]));
+        let joined: Vec<_> = pieces
+            .iter()
+            .map(|it| it.split("</script>").next().unwrap())
+            .collect();
+        assert_eq!(
+            (pieces.len(), joined.concat().as_bytes()),
+            (3, &journal[..])
+        );
     }
 
     #[test]
