@@ -30,7 +30,7 @@ const COVERED: &[(&str, &str, &str)] = &[
     ("rw_page/src/held_exports.rt", "ttd_held_levels", "none: as ttd_levels"),
     ("rw_page/src/lib.rt", "ttd_levels", "none: no test of the page asks for as many stretches yet"),
     ("rw_program/src/inputs.rt", "read_whole", "read_whole"),
-    ("rw_recording/src/broadcast_lead.rt", "lead_broadcast", "Kept::lead, handles"),
+    ("rw_recording/src/broadcast_lead.rt", "lead_broadcast", "Lead::play"),
     ("rw_recording/src/channels.rt", "make", "none: no channel gets as heavy in a lifetime"),
     ("rw_recording/src/cut.rt", "add", "Cut::add"),
     ("rw_recording/src/flight.rt", "renumber", "none: no channel gets as heavy in a lifetime"),
