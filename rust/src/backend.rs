@@ -8,7 +8,7 @@ mod flight;
 mod tests;
 
 pub(crate) use crate::source::rw_recording::{CutFault, OpenFault, Spec};
-pub(crate) use flight::{Kept, LEAD, Lead, MOST_CHUNK, MOST_ENTRIES, Window, WindowFault};
+pub(crate) use flight::{ENTRIES_AT_MOST, Kept, LEAD, Lead, MOST_CHUNK, Window, WindowFault};
 
 use crate::reply::Reply;
 use crate::run::Run;

@@ -9,10 +9,10 @@ use crate::source::rw_recording::{self as core, Recording};
 pub(crate) use core::WindowFault;
 
 /// How many calls a channel keeps at most in each of its two chunks.
-pub(crate) const MOST_CHUNK: usize = rw_journal::MOST_CHUNK;
+pub(crate) use rw_journal::MOST_CHUNK;
 
 /// How many entries a channel has in a journal at most.
-pub(crate) const MOST_ENTRIES: u64 = 2 * MOST_CHUNK as u64;
+pub(crate) const ENTRIES_AT_MOST: u64 = rw_journal::MOST_ENTRIES as u64;
 
 /// The actor of a lead's calls, which nobody has made.
 pub(crate) const LEAD: Actor = Actor(Actor::MOST as u32 - 1);

@@ -2,7 +2,7 @@
 
 use super::run::Indexes;
 use super::windows::{MadeWindow, Windows};
-use crate::backend::{LEAD, MOST_ENTRIES, Window};
+use crate::backend::{ENTRIES_AT_MOST, LEAD, Window};
 use crate::channel::NotedChannel;
 use crate::clock::{Moment, wall};
 use crate::names::{ChannelWindow, Names, WindowNames};
@@ -37,7 +37,7 @@ impl Why {
         Why {
             trigger: "limit",
             reason: format!(
-                "a channel had more calls than a journal takes ({MOST_ENTRIES}), so the beginning was dropped"
+                "a channel had more calls than a journal takes ({ENTRIES_AT_MOST}), so the beginning was dropped"
             ),
             at: wall(),
         }

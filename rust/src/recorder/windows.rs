@@ -1,7 +1,7 @@
 //! The windows of a recorder's channels as one run: the leads first, and then the calls that were
 //! kept.
 
-use crate::backend::{Cut, CutFault, Kept, Lead, MOST_ENTRIES, Window, WindowFault};
+use crate::backend::{Cut, CutFault, ENTRIES_AT_MOST, Kept, Lead, Window, WindowFault};
 use crate::run::Run;
 use crate::source::rw_law::NoMemory;
 use std::io;
@@ -34,7 +34,7 @@ impl Most {
     pub(super) fn of_test() -> Most {
         Most {
             all: u64::MAX,
-            lag: MOST_ENTRIES / 4,
+            lag: ENTRIES_AT_MOST / 4,
             wanted: None,
         }
     }
@@ -120,7 +120,7 @@ fn fit(channels: Vec<Calls>, most: Most) -> Result<Vec<(Lead, u64)>, WindowFault
     for (number, mut channel) in channels.into_iter().enumerate() {
         let lag = most.lag_on(number);
         channel.kept.settle(lag)?;
-        let room = MOST_ENTRIES.saturating_sub(channel.most_of_lead + lag);
+        let room = ENTRIES_AT_MOST.saturating_sub(channel.most_of_lead + lag);
         // With all calls from the opening on there is no lead.
         if channel.kept.len() > room && channel.most_of_lead > 0 {
             skip_to(&mut channel.kept, room)?;
