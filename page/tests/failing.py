@@ -299,7 +299,8 @@ def placed(line):
 def lines_of(account):
     """The lines in which an account is printed, without those of rustc's form that have places alone."""
     told = account["facts"][:account["rest"]["after"]]
-    lines = [f"yovanelum: not all is known: {'; '.join(account['unknown'])}"] if account["unknown"] else []
+    lines = [f"yovanelum: {account['window']['text']}"] if "window" in account else []
+    lines += [f"yovanelum: not all is known: {'; '.join(account['unknown'])}"] if account["unknown"] else []
     for level, fact in zip(["error", "warning", "warning"], told):
         lines += [f"{level}: {fact['text'][0]}", *fact["text"][1:]]
     lines += [account["rest"]["text"]] if account["rest"]["text"] else []
