@@ -66,7 +66,10 @@ impl Walk {
 //~         ensures place { IfOk result (λ p. p.0.place ≡ last_place p.0.run) }
 //~         ensures waits { IfOk result (λ p. p.1 ≡ (run_of script.now).waits) }
     {
-        let Played { specs, book, waits } = play(alloc, script)?;
+        let Ok(played) = play(alloc, script) else {
+            return Err(NoMemory);
+        };
+        let Played { specs, book, waits } = played;
         let debugger = Debugger::of_book(specs, book);
         let walk = Walk {
             alloc,

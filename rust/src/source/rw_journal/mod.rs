@@ -18,7 +18,6 @@ mod growth;
 mod keeps;
 pub mod laws;
 mod ledger;
-mod log;
 mod made;
 mod merged_calls;
 mod merges;

@@ -2,7 +2,7 @@
 // From crates/rw_script/src/running.rt, with its contracts as comments. //+
 use crate::shim::{SliceExt, Vec}; //+
 
-//~ ghost use Rattle.std.specs.Prelude.{◌≡◌, ◌<◌, ◌≤◌, ◌^◌, ◌++◌, ◌∷◌, [], None, false, if◌then◌else◌, length, IfOk, OnOk, IsTrue, MatchOption};
+//~ ghost use Rattle.std.specs.Prelude.{◌≡◌, ◌<◌, ◌≤◌, ◌^◌, ◌++◌, ◌∷◌, [], None, false, if◌then◌else◌, length, IfErr, IfOk, OnOk, IsTrue, MatchOption};
 //~ ghost use Rattle.rw_law.specs.declared.limits.TheConstants.{MOST_ACTORS, MOST_STAMP};
 //~ ghost use Rattle.rw_journal.specs.declared.book.TheConstants.{MOST_ENTRIES};
 //~ ghost use Rattle.rw_journal.specs.Book.{last_stamp, opening_of, reply_to};
@@ -23,16 +23,17 @@ use crate::shim::alloc::Global;
 /// The number for a name whose line made no handle. No handle ever has it.
 pub(crate) const NEVER_MADE: u32 = u32::MAX;
 
-/// Why the threads of a script return no run. If several apply, the first in this order is reported.
+/// Why a script isn't run. If several apply, the first in this order is reported.
 #[derive(Clone, Copy, Debug, PartialEq, Eq/*~, Error~*/)]
 pub enum RunFault {
     /// An allocation failed.
 //~     #[error("no memory")]
     NoMemory,
-    /// Not all threads could be started, and no call was made.
+    /// Not all threads could be started, and no call was made. Only `run_threads` returns this.
 //~     #[error("no thread")]
     NoThread,
-    /// A call of a desk failed, though no allocation did, or the desk's journals and receipts aren't a run of the script.
+    /// A call of a desk failed, though no allocation did, or the desk's journals and receipts aren't a run of the script. Only
+    /// `run_threads` returns this.
 //~     #[error("strayed")]
     Strayed,
 }
@@ -181,23 +182,32 @@ pub struct Played {
 
 /// Runs a script on a book: its calls in the order of its lines, with the stamps 1, 2, 3, .. . It stops at the first call that
 /// would wait, and returns the number of that line.
-pub fn play(alloc: Global, script: &Script) -> Result<Played, NoMemory>
+pub fn play(alloc: Global, script: &Script) -> Result<Played, RunFault>
 //~     ensures specs { IfOk result (λ played. played.specs.items ≡ script.now.specs) }
 //~     ensures opens { IfOk result (λ played. refusal played.specs.items ≡ None) }
 //~     ensures opened { IfOk result (λ played. opening_of of_world played.book ≡ opening_row played.specs.items) }
 //~     ensures entries { IfOk result (λ played. played.book.entries ≡ journal_of of_world (opening_row script.now.specs) 0 (run_of script.now).calls) }
 //~     ensures waits { IfOk result (λ played. played.waits ≡ (run_of script.now).waits) }
+//~     ensures fault { IfErr result (λ fault. fault ≡ RunFault.NoMemory) }
 {
-    let specs = script.specs()./*~to_vec~*//*+*/try_to_vec/*+*/(alloc)?;
-    let (book, waits) = run_world(alloc, script)?;
-    Ok(Played { specs, book, waits })
+    let Ok(specs) = script.specs()./*~to_vec~*//*+*/try_to_vec/*+*/(alloc) else {
+        return Err(RunFault::NoMemory);
+    };
+    match run_world(alloc, script) {
+        Ok((book, waits)) => Ok(Played { specs, book, waits }),
+        Err(NoMemory) => {
+            drop(specs);
+            Err(RunFault::NoMemory)
+        }
+    }
 }
 
 /// Like `play`, but returns a run instead of a book.
-pub fn run_one(alloc: Global, script: &Script) -> Result<(Run<u64>, Option<u64>), NoMemory>
+pub fn run_one(alloc: Global, script: &Script) -> Result<(Run<u64>, Option<u64>), RunFault>
 //~     ensures specs { IfOk result (λ ran. ran.0.specs ≡ script.now.specs) }
 //~     ensures entries { IfOk result (λ ran. ran.0.entries ≡ journal_of of_world (opening_row script.now.specs) 0 (run_of script.now).calls) }
 //~     ensures waits { IfOk result (λ ran. ran.1 ≡ (run_of script.now).waits) }
+//~     ensures fault { IfErr result (λ fault. fault ≡ RunFault.NoMemory) }
 {
     let Played { specs, book, waits } = play(alloc, script)?;
     Ok((Run::of_book(specs, book), waits))
