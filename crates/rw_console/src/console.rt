@@ -100,6 +100,7 @@ pub fn commands<R: Read, W: Write>(
         (commands_report walk.old.run walk.old.place) allowed.old) }
     ensures err { IfErr result (Stops (R.remaining reader.old) (R.remaining reader.new) (W.contents writer.old) (W.contents writer.new)
         (commands_report walk.old.run walk.old.place) Always allowed.old) }
+    ensures run { walk.new.run ≡ walk.old.run }
 {
     let mut line = Vec::new(alloc);
     let mut out = Vec::new(alloc);

@@ -1,6 +1,6 @@
 //! Commands over a run that exists already.
 
-ghost use Rattle.std.specs.Prelude.{IfErr, OnOk};
+ghost use Rattle.std.specs.Prelude.{◌≡◌, IfErr, OnOk};
 ghost use Rattle.rw_navigator.specs.Places.{last_place};
 ghost use Rattle.rw_console.specs.Report.{commands_report};
 ghost use Rattle.rw_console.specs.Streams.{Always, Answers, Stops};
@@ -9,6 +9,7 @@ use crate::console::commands;
 use crate::sessions::{MOST_BYTES, SessionFault};
 use crate::walk::Walk;
 use rw_journal::Run;
+use rw_navigator::Move;
 use std::alloc::Global;
 use std::io::{Read, Write};
 
@@ -25,11 +26,28 @@ pub fn debug<R: Read, W: Write>(
     ensures err { IfErr result (Stops (R.remaining reader.old) (R.remaining reader.new) (W.contents writer.old) (W.contents writer.new)
         (commands_report run.now (last_place run.now)) Always MOST_BYTES) }
 {
-    let mut allowed = MOST_BYTES;
     let Ok(mut walk) = Walk::open(alloc, run) else {
         return Err(SessionFault::NoMemory);
     };
-    let answered = commands(alloc, &mut walk, reader, writer, &mut allowed);
+    let answered = debug_again(alloc, &mut walk, reader, writer);
     drop(walk);
     answered
+}
+
+/// Does what `debug` does, over the run of a walk that stays open. Where the walk is doesn't matter.
+pub fn debug_again<R: Read, W: Write>(
+    alloc: Global,
+    walk: &mut Walk,
+    reader: &mut R,
+    writer: &mut W,
+) -> Result<(), SessionFault>
+    ensures ok { OnOk result (Answers (R.remaining reader.old) (R.remaining reader.new) (W.contents writer.old) (W.contents writer.new)
+        (commands_report walk.old.run (last_place walk.old.run)) MOST_BYTES) }
+    ensures err { IfErr result (Stops (R.remaining reader.old) (R.remaining reader.new) (W.contents writer.old) (W.contents writer.new)
+        (commands_report walk.old.run (last_place walk.old.run)) Always MOST_BYTES) }
+    ensures run { walk.new.run ≡ walk.old.run }
+{
+    let mut allowed = MOST_BYTES;
+    let _ = walk.step(Move::End);
+    commands(alloc, walk, reader, writer, &mut allowed)
 }

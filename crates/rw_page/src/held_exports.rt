@@ -84,8 +84,7 @@ pub extern "C" fn ttd_ask(
     ensures same { held.new.run ≡ held.old.run }
 {
     let mut opened = held.take(alloc);
-    opened.rest();
-    let answered = hand_over(answers_page(alloc, &opened, commands), out, count);
+    let answered = hand_over(answers_page(alloc, &mut opened, commands), out, count);
     held.put(opened);
     answered
 }

@@ -5,7 +5,7 @@ ghost use Rattle.rw_page.specs.HeldPages.{answers_of, state_lines};
 ghost use Rattle.rw_page.specs.Pages.{IsWithin};
 
 use crate::opened::Opened;
-use rw_console::{MOST_BYTES, SessionFault, debug};
+use rw_console::{MOST_BYTES, SessionFault, debug_again};
 use rw_law::NoMemory;
 use std::alloc::Global;
 
@@ -13,15 +13,21 @@ use std::alloc::Global;
 /// `TooMuch`.
 pub fn answers_page(
     alloc: Global,
-    opened: &Opened,
+    opened: &mut Opened,
     commands: &[u8],
 ) -> Result<Vec<u8>, SessionFault>
-    ensures text { IfOk result (λ text. text.items ≡ answers_of opened.now commands.now) }
-    ensures limit { OnOk result (IsWithin MOST_BYTES (answers_of opened.now) commands.now) }
+    ensures text { IfOk result (λ text. text.items ≡ answers_of opened.old commands.now) }
+    ensures limit { OnOk result (IsWithin MOST_BYTES (answers_of opened.old) commands.now) }
+    ensures run { opened.new ≡ opened.old }
 {
+    let Ok(mut walk) = opened.take_walk(alloc) else {
+        return Err(SessionFault::NoMemory);
+    };
     let mut text = Vec::new(alloc);
     let mut input = commands;
-    debug(alloc, opened.run(), &mut input, &mut text)?;
+    let answered = debug_again(alloc, &mut walk, &mut input, &mut text);
+    opened.put_walk(walk);
+    answered?;
     Ok(text)
 }
 

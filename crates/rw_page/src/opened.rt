@@ -6,20 +6,20 @@ ghost use Rattle.std.specs.Prelude.{Ok};
 ghost use Rattle.rw_text.specs.Reading.{reading_of};
 ghost use Rattle.rw_page.specs.HeldPages.{HasFault, state_line};
 
-use rw_blocks::push_json;
+use rw_console::Walk;
 use rw_journal::Run;
 use rw_law::NoMemory;
-use rw_navigator::{Debugger, Move};
+use rw_navigator::Move;
 use rw_text::TextFault;
 use std::alloc::{AllocError, Global};
 use std::marker::Model;
 
-/// A run, and a debugger that keeps its place in it, so that the way to the next state is short. There is none while others need
-/// its memory, which is that of another run.
+/// A run, and a walk that stays open, so that the way to the next state is short and no search is indexed twice. There is none while
+/// others need its memory, which is that of another run.
 #[derive(Drop)]
 pub struct Opened {
     run: Run<u64>,
-    debugger: Option<Debugger<u64>>,
+    walk: Option<Walk>,
 }
 
 impl Model for Opened {
@@ -30,7 +30,7 @@ impl Model for Opened {
 
     ghost view = { λ o. o.run };
 
-    ghost invariant = { λ o. IfSome o.debugger (λ debugger. debugger.run ≡ o.run) };
+    ghost invariant = { λ o. IfSome o.walk (λ walk. walk.run ≡ o.run) };
 }
 
 impl Opened {
@@ -40,10 +40,7 @@ impl Opened {
         ensures fault { IfOk result (λ read. IfNone read (HasFault journal.now)) }
     {
         match rw_text::read::<u64>(alloc, journal) {
-            Ok(run) => Ok(Some(Opened {
-                run,
-                debugger: None,
-            })),
+            Ok(run) => Ok(Some(Opened { run, walk: None })),
             Err(TextFault::NoMemory) => Err(NoMemory),
             Err(_) => Ok(None),
         }
@@ -56,11 +53,30 @@ impl Opened {
         &self.run
     }
 
-    /// Drops the debugger, and leaves its memory to others.
+    /// Drops the walk, and leaves its memory to others.
     pub fn rest(&mut self)
         ensures { self.new ≡ self.old }
     {
-        drop(self.debugger.take());
+        drop(self.walk.take());
+    }
+
+    /// Takes the walk out, or opens one.
+    pub fn take_walk(&mut self, alloc: Global) -> Result<Walk, NoMemory>
+        ensures walk { IfOk result (λ walk. walk.run ≡ self.old) }
+        ensures run { self.new ≡ self.old }
+    {
+        match self.walk.take() {
+            Some(walk) => Ok(walk),
+            None => Walk::open(alloc, &self.run),
+        }
+    }
+
+    /// Puts the walk back.
+    pub fn put_walk(&mut self, walk: Walk)
+        requires { walk.run ≡ self.old }
+        ensures { self.new ≡ self.old }
+    {
+        self.walk = Some(walk);
     }
 
     /// Appends the line with the state of a place, if there is such a place.
@@ -73,29 +89,21 @@ impl Opened {
         ensures line { OnOk result (out.new.items ≡ out.old.items ++ state_line self.old place) }
         ensures run { self.new ≡ self.old }
     {
-        let mut debugger = match self.debugger.take() {
-            Some(debugger) => debugger,
-            None => Debugger::open(alloc, &self.run)?,
-        };
-        let pushed = push_state_of(alloc, out, &mut debugger, place);
-        self.debugger = Some(debugger);
+        let mut walk = self.take_walk(alloc)?;
+        let pushed = push_state_of(out, &mut walk, place);
+        self.put_walk(walk);
         pushed?;
         Ok(())
     }
 }
 
 /// Goes to a place and appends the line with its state, if there is such a place.
-fn push_state_of(
-    alloc: Global,
-    out: &mut Vec<u8>,
-    debugger: &mut Debugger<u64>,
-    place: u64,
-) -> Result<(), AllocError>
-    ensures line { OnOk result (out.new.items ≡ out.old.items ++ state_line debugger.old.run place) }
-    ensures run { debugger.new.run ≡ debugger.old.run }
+fn push_state_of(out: &mut Vec<u8>, walk: &mut Walk, place: u64) -> Result<(), AllocError>
+    ensures line { OnOk result (out.new.items ≡ out.old.items ++ state_line walk.old.run place) }
+    ensures run { walk.new.run ≡ walk.old.run }
 {
-    if debugger.step(Move::Goto(place)).is_err() {
+    if walk.step(Move::Goto(place)).is_err() {
         return Ok(());
     }
-    push_json(alloc, out, debugger.state(), debugger.len(), place)
+    walk.push_json(out)
 }

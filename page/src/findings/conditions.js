@@ -5,8 +5,8 @@ import { isolated } from "../base/text.js";
 const MOST_RECEIVERS = 16;
 const HIT = /^hit (\d+) of/;
 
-// Conditions on calls have an index in the debugger, which each request makes again, so that their hits are asked for in few parts. Others are looked
-// for from call to call, so that a search without a hit takes long: of these the first hits are found in small parts.
+// Conditions on calls have an index in the debugger, so that their hits are asked for in few parts. Others are looked for from call to call, so that a
+// search without a hit takes long: of these the first hits are found in small parts.
 const OF_CALLS = /^(actor|channel|reply) /;
 const MANY = { first: 10_000, atOnce: 10_000, most: 10_000 };
 const FEW = { first: 8, atOnce: 64, most: 1000 };

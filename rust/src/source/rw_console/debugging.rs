@@ -1,7 +1,7 @@
 //! Commands over a run that exists already.
 // From crates/rw_console/src/debugging.rt, with its contracts as comments. //+
 
-//~ ghost use Rattle.std.specs.Prelude.{IfErr, OnOk};
+//~ ghost use Rattle.std.specs.Prelude.{◌≡◌, IfErr, OnOk};
 //~ ghost use Rattle.rw_navigator.specs.Places.{last_place};
 //~ ghost use Rattle.rw_console.specs.Report.{commands_report};
 //~ ghost use Rattle.rw_console.specs.Streams.{Always, Answers, Stops};
@@ -10,6 +10,7 @@ use crate::source::rw_console::console::commands;
 use crate::source::rw_console::sessions::{MOST_BYTES, SessionFault};
 use crate::source::rw_console::walk::Walk;
 use crate::source::rw_journal::Run;
+use crate::source::rw_navigator::Move;
 use crate::shim::alloc::Global;
 use crate::shim::io::{Read, Write};
 
@@ -26,11 +27,28 @@ pub fn debug<R: Read, W: Write>(
 //~     ensures err { IfErr result (Stops (R.remaining reader.old) (R.remaining reader.new) (W.contents writer.old) (W.contents writer.new)
 //~         (commands_report run.now (last_place run.now)) Always MOST_BYTES) }
 {
-    let mut allowed = MOST_BYTES;
     let Ok(mut walk) = Walk::open(alloc, run) else {
         return Err(SessionFault::NoMemory);
     };
-    let answered = commands(alloc, &mut walk, reader, writer, &mut allowed);
+    let answered = debug_again(alloc, &mut walk, reader, writer);
     drop(walk);
     answered
+}
+
+/// Does what `debug` does, over the run of a walk that stays open. Where the walk is doesn't matter.
+pub fn debug_again<R: Read, W: Write>(
+    alloc: Global,
+    walk: &mut Walk,
+    reader: &mut R,
+    writer: &mut W,
+) -> Result<(), SessionFault>
+//~     ensures ok { OnOk result (Answers (R.remaining reader.old) (R.remaining reader.new) (W.contents writer.old) (W.contents writer.new)
+//~         (commands_report walk.old.run (last_place walk.old.run)) MOST_BYTES) }
+//~     ensures err { IfErr result (Stops (R.remaining reader.old) (R.remaining reader.new) (W.contents writer.old) (W.contents writer.new)
+//~         (commands_report walk.old.run (last_place walk.old.run)) Always MOST_BYTES) }
+//~     ensures run { walk.new.run ≡ walk.old.run }
+{
+    let mut allowed = MOST_BYTES;
+    let _ = walk.step(Move::End);
+    commands(alloc, walk, reader, writer, &mut allowed)
 }

@@ -20,6 +20,7 @@ mod sessions;
 mod text;
 mod walk;
 
-pub use debugging::debug;
+pub use debugging::{debug, debug_again};
 pub use session_lines::{fault_line, waiting_line};
 pub use sessions::{MOST_BYTES, Outcome, SessionFault, session};
+pub use walk::Walk;

@@ -7,6 +7,7 @@ use crate::shim::Vec; //+
 //~ ghost use Rattle.rw_console.specs.Report.{output_of, place_of};
 //~ ghost use Rattle.rw_console.specs.SessionReport.{recording_of};
 //~ ghost use Rattle.rw_navigator.specs.Conditions.{asks_step, holds_of_step};
+//~ ghost use Rattle.rw_navigator.specs.Moves.{answer_to, landing, place_after};
 //~ ghost use Rattle.rw_navigator.specs.Places.{entry_to, last_place};
 //~ ghost use Rattle.rw_world.specs.Specified.{WorldEntry};
 //~ ghost use Rattle.rw_script.specs.Running.{run_of};
@@ -18,30 +19,32 @@ use crate::source::rw_console::text::{push_hit, push_place, push_refusal};
 use crate::source::rw_blocks::{push_json, push_world};
 use crate::source::rw_journal::Run;
 use crate::source::rw_law::{Entry, NoMemory, Reversible};
-use crate::source::rw_navigator::{Cond, Debugger, HitIndex, Move, Probe};
+use crate::source::rw_navigator::{Cond, Debugger, HitIndex, Move, OutOfRange, Probe};
 use crate::source::rw_script::{Played, Script, play};
 use crate::source::rw_world::World;
 use crate::shim::alloc::{AllocError, Global};
 //~ use std::marker::Model;
 
-/// A debugger that runs commands and writes their output.
+/// A debugger that runs commands and writes their output. It goes to a place where that place's state is needed, and not before.
 //~ #[derive(Drop)]
 pub struct Walk {
     alloc: Global,
     debugger: Debugger<u64>,
+    place: u64,
     // Of the conditions on entries that were searched for, as far as there was memory for them. No two are of one condition.
     indexes: Vec<CondIndex>,
 }
 
 //~ impl Model for Walk {
-//~     ghost use Rattle.std.specs.Prelude.{◌≡◌, All};
+//~     ghost use Rattle.std.specs.Prelude.{◌≡◌, ◌≤◌, All};
 //~     ghost use Rattle.rw_console.specs.Walk.{Walk as Seen};
+//~     ghost use Rattle.rw_navigator.specs.Places.{last_place as last_of};
 //~
 //~     ghost Value = { Seen };
 //~
-//~     ghost view = { λ a. record { run = a.debugger.run; place = a.debugger.place } };
+//~     ghost view = { λ a. record { run = a.debugger.run; place = a.place } };
 //~
-//~     ghost invariant = { λ a. All (λ i. i.index.entries ≡ a.debugger.run.entries) a.indexes.items };
+//~     ghost invariant = { λ a. (a.place ≤ last_of a.debugger.run) × All (λ i. i.index.entries ≡ a.debugger.run.entries) a.indexes.items };
 //~ }
 
 impl Walk {
@@ -50,18 +53,13 @@ impl Walk {
 //~         ensures run { IfOk result (λ walk. walk.run ≡ run.now) }
 //~         ensures place { IfOk result (λ walk. walk.place ≡ last_place run.now) }
     {
-        let mut debugger = Debugger::open(alloc, run)?;
-        let _ = debugger.step(Move::End);
-        Ok(Walk {
-            alloc,
-            debugger,
-            indexes: Vec::new(alloc),
-        })
+        let debugger = Debugger::open(alloc, run)?;
+        Ok(Walk::at_end(alloc, debugger))
     }
 
     /// Runs a script, and opens a walk at the last place of its run, with the machine and the entries of its book. Also returns
     /// the line that would wait, if there is one.
-    pub fn of_script(alloc: Global, script: &Script) -> Result<(Walk, Option<u64>), NoMemory>
+    pub(crate) fn of_script(alloc: Global, script: &Script) -> Result<(Walk, Option<u64>), NoMemory>
 //~         ensures run { IfOk result (λ p. p.0.run ≡ recording_of script.now) }
 //~         ensures place { IfOk result (λ p. p.0.place ≡ last_place p.0.run) }
 //~         ensures waits { IfOk result (λ p. p.1 ≡ (run_of script.now).waits) }
@@ -70,17 +68,25 @@ impl Walk {
             return Err(NoMemory);
         };
         let Played { specs, book, waits } = played;
-        let debugger = Debugger::of_book(specs, book);
-        let walk = Walk {
-            alloc,
-            debugger,
-            indexes: Vec::new(alloc),
-        };
+        let walk = Walk::at_end(alloc, Debugger::of_book(specs, book));
         Ok((walk, waits))
     }
 
+    /// Opens a walk at the last place of a debugger's run.
+    fn at_end(alloc: Global, debugger: Debugger<u64>) -> Walk
+//~         ensures run { result.run ≡ debugger.run }
+//~         ensures place { result.place ≡ last_place debugger.run }
+    {
+        Walk {
+            alloc,
+            place: debugger.len(),
+            debugger,
+            indexes: Vec::new(alloc),
+        }
+    }
+
     /// Returns how many entries the run has.
-    pub fn len(&self) -> u64
+    pub(crate) fn len(&self) -> u64
 //~         ensures { result ≡ last_place self.now.run }
     {
         self.debugger.len()
@@ -98,37 +104,50 @@ impl Walk {
         self.debugger.entry(place - 1)
     }
 
+    /// Makes a move. One that leads to no place is refused, and changes nothing.
+    pub fn step(&mut self, to: Move) -> Result<(), OutOfRange>
+//~         ensures answer { result ≡ answer_to (last_place self.old.run) self.old.place to }
+//~         ensures place { self.new.place ≡ landing (last_place self.old.run) self.old.place to }
+//~         ensures run { self.new.run ≡ self.old.run }
+    {
+        match destination(to, self.place, self.debugger.len()) {
+            Some(place) => {
+                self.place = place;
+                Ok(())
+            }
+            None => Err(OutOfRange),
+        }
+    }
+
     /// Makes a move, and appends its output.
     fn make_move(&mut self, to: Move, out: &mut Vec<u8>) -> Result<(), AllocError>
 //~         ensures output { OnOk result (out.new.items ≡ out.old.items ++ output_of self.old.run self.old.place (Command.Move to)) }
 //~         ensures place { OnOk result (self.new.place ≡ place_of self.old.run self.old.place (Command.Move to)) }
 //~         ensures run { self.new.run ≡ self.old.run }
     {
-        let answer = self.debugger.step(to);
+        let answer = self.step(to);
         push_refusal(out, answer)?;
-        push_place(out, self.debugger.len(), self.debugger.place())
+        push_place(out, self.debugger.len(), self.place)
     }
 
     /// Appends the state of the place.
-    fn push_state(&self, out: &mut Vec<u8>) -> Result<(), AllocError>
-//~         ensures { OnOk result (out.new.items ≡ out.old.items ++ output_of self.now.run self.now.place Command.State) }
+    fn push_state(&mut self, out: &mut Vec<u8>) -> Result<(), AllocError>
+//~         ensures output { OnOk result (out.new.items ≡ out.old.items ++ output_of self.old.run self.old.place Command.State) }
+//~         ensures stays { self.new ≡ self.old }
     {
-        push_place(out, self.debugger.len(), self.debugger.place())?;
+        bring(&mut self.debugger, self.place);
+        push_place(out, self.debugger.len(), self.place)?;
         push_world(out, self.debugger.state())
     }
 
     /// Appends the state of the place as JSON.
-    fn push_json(&self, out: &mut Vec<u8>) -> Result<(), AllocError>
-//~         ensures { OnOk result (out.new.items ≡ out.old.items ++ output_of self.now.run self.now.place Command.StateJson) }
+    pub fn push_json(&mut self, out: &mut Vec<u8>) -> Result<(), AllocError>
+//~         ensures output { OnOk result (out.new.items ≡ out.old.items ++ output_of self.old.run self.old.place Command.StateJson) }
+//~         ensures stays { self.new ≡ self.old }
     {
+        bring(&mut self.debugger, self.place);
         let world = self.debugger.state();
-        push_json(
-            self.alloc,
-            out,
-            world,
-            self.debugger.len(),
-            self.debugger.place(),
-        )
+        push_json(self.alloc, out, world, self.debugger.len(), self.place)
     }
 
     /// Returns the index of a condition, if it is there.
@@ -163,14 +182,14 @@ impl Walk {
         }
     }
 
-    /// Goes to a hit by one move. Without a hit, the place stays the same.
+    /// Goes to a hit. Without a hit, the place stays the same.
     fn go_to(&mut self, found: Option<u64>)
 //~         requires { IfSome found (λ hit. hit ≤ last_place self.old.run) }
 //~         ensures place { self.new.place ≡ unwrap_or found self.old.place }
 //~         ensures run { self.new.run ≡ self.old.run }
     {
         if let Some(hit) = found {
-            let _ = self.debugger.step(Move::Goto(hit));
+            self.place = hit;
         }
     }
 
@@ -182,9 +201,12 @@ impl Walk {
     {
         self.keep_index(cond);
         let Some(index) = self.index_of(cond) else {
-            return self.debugger.back_to(&cond);
+            bring(&mut self.debugger, self.place);
+            let found = self.debugger.back_to(&cond);
+            self.place = self.debugger.place();
+            return found;
         };
-        let found = index.before(self.debugger.place());
+        let found = index.before(self.place);
         self.go_to(found);
         found
     }
@@ -197,9 +219,12 @@ impl Walk {
     {
         self.keep_index(cond);
         let Some(index) = self.index_of(cond) else {
-            return self.debugger.forward_to(&cond);
+            bring(&mut self.debugger, self.place);
+            let found = self.debugger.forward_to(&cond);
+            self.place = self.debugger.place();
+            return found;
         };
-        let found = index.after(self.debugger.place());
+        let found = index.after(self.place);
         self.go_to(found);
         found
     }
@@ -210,7 +235,7 @@ impl Walk {
 //~         ensures place { OnOk result (self.new.place ≡ place_of self.old.run self.old.place (Command.SearchBack cond)) }
 //~         ensures run { self.new.run ≡ self.old.run }
     {
-        let from = self.debugger.place();
+        let from = self.place;
         let found = self.back_to(cond);
         push_hit(out, self.debugger.len(), from, found)
     }
@@ -221,13 +246,13 @@ impl Walk {
 //~         ensures place { OnOk result (self.new.place ≡ place_of self.old.run self.old.place (Command.SearchForward cond)) }
 //~         ensures run { self.new.run ≡ self.old.run }
     {
-        let from = self.debugger.place();
+        let from = self.place;
         let found = self.forward_to(cond);
         push_hit(out, self.debugger.len(), from, found)
     }
 
     /// Appends the entry that leads to a place.
-    pub fn push_step(&self, place: u64, out: &mut Vec<u8>) -> Result<(), AllocError>
+    pub(crate) fn push_step(&self, place: u64, out: &mut Vec<u8>) -> Result<(), AllocError>
 //~         ensures { OnOk result (out.new.items ≡ out.old.items ++ output_of self.now.run place Command.Step) }
     {
         match self.entry_to(place) {
@@ -238,7 +263,7 @@ impl Walk {
 
     /// Runs a command, and appends its output. `list` isn't run here: it has many entries, so they are written one by one with
     /// `push_step`.
-    pub fn answer(&mut self, command: Command, out: &mut Vec<u8>) -> Result<(), AllocError>
+    pub(crate) fn answer(&mut self, command: Command, out: &mut Vec<u8>) -> Result<(), AllocError>
 //~         requires short { command ≢ Command.List }
 //~         ensures output { OnOk result (out.new.items ≡ out.old.items ++ output_of self.old.run self.old.place command) }
 //~         ensures place { OnOk result (self.new.place ≡ place_of self.old.run self.old.place command) }
@@ -252,11 +277,35 @@ impl Walk {
             Command::SearchBack(cond) => self.search_back(cond, out),
             Command::SearchForward(cond) => self.search_forward(cond, out),
             Command::Step => {
-                let place = self.debugger.place();
+                let place = self.place;
                 self.push_step(place, out)
             }
             Command::Move(to) => self.make_move(to, out),
             Command::List => unreachable!(),
         }
     }
+}
+
+/// Returns where a move leads from a place, or `None` if to none of the places 0 to `len`.
+fn destination(to: Move, place: u64, len: u64) -> Option<u64>
+//~     requires { place ≤ len }
+//~     ensures place { result ≡ place_after len place to }
+//~     ensures inside { IfSome result (λ p. p ≤ len) }
+{
+    match to {
+        Move::Back(n) => place.checked_sub(n),
+        Move::Forward(n) => place.checked_add(n).filter(|p| *p <= len),
+        Move::Goto(n) => Some(n).filter(|p| *p <= len),
+        Move::Start => Some(0),
+        Move::End => Some(len),
+    }
+}
+
+/// Brings a debugger to a place of its run.
+fn bring(debugger: &mut Debugger<u64>, place: u64)
+//~     requires { place ≤ last_place debugger.old.run }
+//~     ensures place { debugger.new.place ≡ place }
+//~     ensures run { debugger.new.run ≡ debugger.old.run }
+{
+    let _ = debugger.step(Move::Goto(place));
 }
