@@ -1,76 +1,112 @@
--- The machine values of a `Loose` and of a `Held`. Assumes `Logic`.
+-- The machine values of a `Held` and of a box of an opened run, and what a call passes for that box's types. Assumes `Logic`.
 use Rattle.std.proofs.Common.{◌≡◌, ℕ, List, [], ◌∷◌, ◌++◌, refl, sym, subst}
-use mathlib.Core.Bool.{Bool, true, false, ◌&&◌}
+use mathlib.Core.Bool.{Bool}
 use lib.Dec.{T}
 use seplogic.Ra.Ura.{Ura}
-use mir.Syntax.{impl, tnil, dnil}
+use mir.Syntax.{Dict, impl, tnil, tcons, dnil, method, no_args}
 use mir.Raw.{raw as bare}
-use mir.Val.{Val, vptr, vstruct, vcons, vnil, of_list, has_ty, WT}
+use mir.Val.{Val, vptr, vstruct, vcons, vnil, of_list}
 use base.Logic.{never, fst∗}
 use types.Logic.{Logic, sem}
-use types.Kit.{Item, Goal, Seq, Step, step, ‵, ◌$◌, move, drop, fsplit, fjoin, fpick, fpack, feq_i, feq_l}
+use types.Kit.{Item, Goal, Seq, Step, step, ‵, ◌$◌, drop, fsplit, fjoin, fpick, fpack, feq_i, feq_l}
+use prog.Model.{Model}
+use prog.Wired.{Wired}
+use borrow.Fn.Glue.{glue_by, glue_ps}
+use borrow.Fn.Impl.{via_longer, method_Known}
+use borrow.Fn.Kinds.{ended_of, stays, r_unit}
+use borrow.Fn.Run.{Over}
+use borrow.Fn.World.{World}
+use contract.Running.{Running}
 use denote.RattleType.{RattleType, Valss}
 use denote.Builtin.{RawPtr}
 use denote.Memory.{lone}
+use denote.Exit.{no}
+use denote.Param.{arg, layout}
+use denote.Param.Laws.{Laws, arg_laws}
+use denote.Param.Glue.{Met}
+use denote.Param.NoDrop.{glues}
 use denote.RawPtr.{Ptr, block_ptr, null_ptr, ptr_val, in_a_block}
 use denote.Steps.{nothing}
-use denote.Param.{layout}
-use denote.Param.Laws.{Laws}
 use denote.Struct.Struct.{within}
 use denote.Struct.Owning.{shape}
-use Rattle.core.specs.declared.alloc.Allocator.{Ghosts}
-use Rattle.core.proofs.alloc.Calls.{Al, handle_tells}
+use denote.Triple.Carry.{AllWithin}
+use denote.Triple.Clauses.{Lasts, lasts, at_exit}
+use denote.Triple.Walked.{Fit}
 use Rattle.core.proofs.cell.Inside.{Good}
 use Rattle.std_alloc.specs.Box.Ownership.{box_owns}
-use Rattle.std_alloc.proofs.ResultValues.{and_tt}
-use Rattle.rw_page.specs.contracts.loose.Loose as loose
+use Rattle.std_alloc.proofs.BoxSteps.Form.{Bx, B, word, box_typed}
+use Rattle.std_alloc.proofs.BoxSteps.Steps.{box_out, box_in}
+use Rattle.std_heap.specs.contracts.Global as heap
+use Rattle.std_heap.specs.contracts.GlobalAllocator.TheImpl.{ghosts, dict}
+use Rattle.std_heap.proofs.Global.TheLaws as heap_laws
 use Rattle.rw_page.specs.contracts.held.Held as held
 use Rattle.rw_page.specs.contracts.opened.Opened as opened
+use Rattle.rw_page.proofs.opened.Opened.TheLaws as opened_laws
+use Rattle.rw_page.proofs.Destruct++none.drop.Code as let_go
+use Rattle.rw_page.proofs.rw_page++opened++Opened+Destruct.drop.Kinds as freed
+use Rattle.rw_page.proofs.rw_page++opened++Opened+Destruct.drop.Met as freed_met
+use Rattle.rw_page.proofs.rw_page++opened++Opened+Destruct.drop.Reads as freed_reads
+use Rattle.rw_page.proofs.rw_page++opened++Opened+Destruct.drop.Symbol as freed_symbol
 use Rattle.rw_journal.specs.Run.{Run}
 use Rattle.rw_page.specs.Held.{held_owns}
 use Rattle.std.specs.Prelude.{Option, None, Some, IsSome}
-use Rattle.std.specs.contracts.impls.GlobalAllocator.TheImpl.{ghosts}
 use Rattle.std_heap.specs.declared.Global.{Global}
 
-abbrev pub both : Val → Val → Val
-both v w = vstruct (vcons v (vcons w vnil))
+-- the box's types as a call passes them: of a type's layout it passes no names
+abbrev pub Inner : RattleType
+Inner = arg (bare (layout opened.the_row)) no opened.the_row
 
-pub both_tt : (x y : Bool) → T x → T y → T (x && (y && true))
-both_tt true true s t = tt
-both_tt true false s t = absurd t
-both_tt false y s t = absurd s
+abbrev pub inner_laws : Laws Inner
+inner_laws = arg_laws (bare (layout opened.the_row)) no opened.the_row opened_laws.the_row_laws refl
 
-module _ (R Z : RattleType) (L : Laws Z) (g : Ghosts Z.Denot) where
-  abbrev pub Loose : RattleType
-  Loose = loose.the_row R Z g
+abbrev pub Handle : RattleType
+Handle = arg (bare (layout heap.the_row)) no heap.the_row
 
-  abbrev pub al : Al
-  al = record { row = Z; laws = L; g = g; d = impl [] tnil dnil; drops = impl [] tnil dnil }
+abbrev pub handle_laws : Laws Handle
+handle_laws = arg_laws (bare (layout heap.the_row)) no heap.the_row heap_laws.the_row_laws refl
 
-  pub loose_good : (b o : ℕ) (h : Val) → Good (layout Z) h → T (has_ty (layout Z) h && true) × WT (both (vptr b o) h)
-  loose_good b o h fits = (and_tt (has_ty (layout Z) h) fits.0, (tt, (fits.1, tt)))
+-- a handle has no destructor, and an opened run has its own
+abbrev pub handle_drops : Dict
+handle_drops = impl ("rw_page::Destruct++none::drop" ∷ []) (tcons (layout Handle) tnil) dnil
 
-  module _ {M : Type 1} {𝓤 : Ura M} {𝓛 : Logic 𝓤} {K : Type 0} {Γ : List (Item 𝓤)} {G : Goal 𝓤 𝓛.H} where
-    pub loose_out : K → (d : Loose.Denot) (vs : List Val)
-        → ((b o : ℕ) (h : Val) → d.at ≡ block_ptr b o → vs ≡ both (vptr b o) h ∷ [] → Good (layout Z) h
-        → Seq K 𝓛 (‵ (box_owns (g.dealloc_token d.alloc) R (block_ptr b o) d.value) ∷ ‵ (Z.own_val d.alloc (h ∷ [])) ∷ Γ) G)
-        → Seq K 𝓛 (‵ (Loose.own_val d vs) ∷ Γ) G
-    loose_out t d vs k =
-        fsplit t $ fpick t (λ vss. fsplit t $ feq_l t (λ ev. fsplit t $ feq_l t (λ ep. fsplit t $
-        handle_tells al t d.alloc vss.1.0 (λ h ea fits. move t (1 ∷ []) $ drop t $ move t (1 ∷ []) $
-        in_a_block t d.at (λ p. box_owns (g.dealloc_token d.alloc) R p d.value) (fst∗ 𝓤 (never 𝓤) (sem 𝓛 (g.dealloc_token d.alloc (bare (lone R.mir))
-        null_ptr))) (λ b o e. k b o h e
-        (subst (λ (p : Ptr). vs ≡ vstruct (of_list (ptr_val p ∷ h ∷ [])) ∷ []) e
-        (subst (λ (ws : List Val). vs ≡ vstruct (of_list (ptr_val d.at ∷ (ws ++ []))) ∷ []) ea (subst
-        (λ (ps : List Val). vs ≡ vstruct (of_list (ps ++ (vss.1.0 ++ []))) ∷ []) ep ev))) fits)))))
+abbrev pub opened_drops : Dict
+opened_drops = impl ("rw_page::rw_page++opened++Opened+Destruct::drop" ∷ []) tnil dnil
 
-    pub loose_in : K → (b o : ℕ) (h : Val) (a : Z.Denot) (x : R.Denot)
-        → Step K 𝓛 (‵ (Loose.own_val (record { at = block_ptr b o; alloc = a; value = x }) (both (vptr b o) h ∷ []))
-        ∷ Γ) G (‵ (box_owns (g.dealloc_token a) R (block_ptr b o) x) ∷ ‵ (Z.own_val a (h ∷ [])) ∷ Γ) G
-    loose_in t b o h a x = step (λ s. let v : Val = both (vptr b o) h in
-        nothing t $ move t (2 ∷ 0 ∷ []) $ fjoin t $ feq_i t (List Val) (vptr b o ∷ []) (vptr b o ∷ []) refl $ fjoin t $
-        feq_i t (List Val) (v ∷ []) (v ∷ []) refl $ fjoin t $
-        fpack t (Valss (RawPtr ∷ Z ∷ [])) (within (shape (loose.the_type R Z g)) (block_ptr b o, (a, tt)) (v ∷ [])) (vptr b o ∷ [], (h ∷ [], tt)) $ fjoin t $ s)
+abbrev pub E : Bx
+E = record {
+  row = opened.the_row;
+  laws = opened_laws.the_row_laws;
+  al = record { row = heap.the_row; laws = heap_laws.the_row_laws; g = ghosts; d = dict; drops = handle_drops };
+}
+
+pub handle_freed : {M : Type 1} (𝓤 : Ura M) (𝓛 : Logic 𝓤) (𝓜 : Model 𝓤 𝓛.H) (𝓡 : Running 𝓤 𝓛.H 𝓜) → Wired 𝓡.env let_go.code
+    → Met 𝓛 𝓜 𝓡 𝓡.env Handle handle_drops
+unfolding let_go.code
+handle_freed {M = M} 𝓤 𝓛 𝓜 𝓡 w = glues "rw_page::Destruct++none::drop" 𝓡.env w Handle handle_laws M 𝓤 𝓛 𝓜 𝓡
+
+-- the destructor of an opened run is what a function over any type asks of its parameter's
+pub opened_freed : {M : Type 1} (𝓤 : Ura M) (𝓛 : Logic 𝓤) (𝓜 : Model 𝓤 𝓛.H) (𝓡 : Running 𝓤 𝓛.H 𝓜) → Wired 𝓡.env freed_symbol.code
+    → Met 𝓛 𝓜 𝓡 𝓡.env Inner opened_drops
+opened_freed {M = M} 𝓤 𝓛 𝓜 𝓡 w =
+    let w₀ : World = record { M = M; 𝓤 = 𝓤; 𝓛 = 𝓛; 𝓜 = 𝓜; 𝓡 = 𝓡 } in
+    let R : RattleType = Inner in let L = inner_laws in let key = method opened_drops 0 no_args in
+    let En = ended_of 0 freed.ps freed.r in
+    glue_by R L w₀ opened_drops 𝓡.env (λ κs a. Lasts En tt a) (λ κs a. lasts En tt a)
+    (λ κs a x ws. Fit En (stays freed.ps) tt a ws × freed_reads.Learnt tt a x (at_exit En tt a ws))
+    (λ κs a. AllWithin 1 (κs.0, tt) (R.lives, tt) × Unit {0}) 0 tt (λ κs a h. ((h, tt), tt))
+    (via_longer 𝓛 (Over 𝓛 𝓜 𝓡 𝓡.env) 1 (glue_ps R L) r_unit (λ κs a. Lasts En tt a) (λ κs a. lasts En tt a)
+    (λ κs a x ws. Fit En (stays freed.ps) tt a ws × freed_reads.Learnt tt a x (at_exit En tt a ws))
+    (λ κs a. AllWithin 1 (κs.0, tt) (R.lives, tt) × Unit {0}) key 0 tt (λ κs. tt) (λ κs a. freed_reads.Asked tt a) (λ κs a p. (tt, tt))
+    (λ κs bd within a vss qs. method_Known 0 freed.ps freed.r freed_reads.requires freed_reads.ensures freed_reads.Asked freed_reads.Learnt
+    freed_reads.known w₀ freed_symbol.name key (freed_symbol.as_method 𝓡.env w key refl) (freed_met.met 𝓤 𝓛 𝓜 𝓡 w) ((tt, qs, tt, a, vss), tt)))
+
+module _ {M : Type 1} {𝓤 : Ura M} {𝓛 : Logic 𝓤} {K : Type 0} {Γ : List (Item 𝓤)} {G : Goal 𝓤 𝓛.H} where
+  -- a box is one machine value, of its type
+  pub box_tells : K → (d : (B E).Denot) (vs : List Val)
+      → ((w : Val) → vs ≡ w ∷ [] → Good (layout (B E)) w → Seq K 𝓛 (‵ ((B E).own_val d (w ∷ [])) ∷ Γ) G)
+      → Seq K 𝓛 (‵ ((B E).own_val d vs) ∷ Γ) G
+  box_tells t d vs k =
+      box_out E t d vs (λ b o h e ws fits. box_in E t d b o d.value e refl $ k (word E h b o) ws (box_typed E h b o fits))
 
 abbrev pub one_ptr : ℕ → ℕ → Val
 one_ptr b o = vstruct (vcons (vptr b o) vnil)

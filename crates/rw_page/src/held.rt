@@ -4,7 +4,6 @@ ghost use Rattle.std.specs.Prelude.{◌≡◌, ℕ, IsSome, Option, None, Some};
 ghost use Rattle.rw_journal.specs.Run.{Run};
 ghost use Rattle.rw_page.specs.Held.{held_owns};
 
-use crate::loose::Loose;
 use crate::opened::Opened;
 use std::alloc::Global;
 use std::marker::Model;
@@ -25,22 +24,23 @@ impl Model for Held {
 }
 
 impl Held {
-    fn of(opened: Loose<Opened, Global>) -> Held
+    /// Takes over a box.
+    fn of(opened: Box<Opened>) -> Held
         ensures { result.run ≡ Some opened.value }
     {
-        let Loose { at, alloc: _ } = opened;
-        Held { at: at as *mut u8 }
+        let opened = Box::into_raw(opened);
+        Held {
+            at: opened as *mut u8,
+        }
     }
 
-    fn into_loose(self, alloc: Global) -> Loose<Opened, Global>
+    /// Makes the box again, with any `Global`, since they are all alike.
+    fn into_box(self, alloc: Global) -> Box<Opened>
         requires { IsSome self.run }
         ensures { self.run ≡ Some result.value }
     {
         let Held { at } = self;
-        Loose {
-            at: at as *mut Opened,
-            alloc,
-        }
+        unsafe { Box::from_raw(alloc, at as *mut Opened) }
     }
 
     fn empty() -> Held
@@ -56,7 +56,7 @@ impl Held {
         requires { self.old.run ≡ None }
         ensures { self.new.run ≡ Some opened.value }
     {
-        *self = Held::of(Loose::of(opened));
+        *self = Held::of(opened);
     }
 
     /// Takes the run out.
@@ -66,6 +66,6 @@ impl Held {
         ensures none { self.new.run ≡ None }
     {
         let held = mem::replace(self, Held::empty());
-        held.into_loose(alloc).into_box()
+        held.into_box(alloc)
     }
 }

@@ -19,7 +19,6 @@ pub mod held_exports;
 mod held_pages;
 mod life_lines;
 mod lines;
-mod loose;
 mod loss_lines;
 mod opened;
 mod pages;
