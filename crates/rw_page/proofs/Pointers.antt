@@ -1,5 +1,5 @@
 -- The machine values of a `Held` and of a box of an opened run, and what a call passes for that box's types. Assumes `Logic`.
-use Rattle.std.proofs.Common.{◌≡◌, ℕ, List, [], ◌∷◌, ◌++◌, refl, sym, subst}
+use Rattle.std.proofs.Common.{◌≡◌, ℕ, List, [], ◌∷◌, ◌++◌, refl, sym, ap, ◌∙◌, subst}
 use mathlib.Core.Bool.{Bool}
 use lib.Dec.{T}
 use seplogic.Ra.Ura.{Ura}
@@ -132,12 +132,12 @@ module _ {M : Type 1} {𝓤 : Ura M} {𝓛 : Logic 𝓤} {K : Type 0} {Γ : List
   heap_out t p None is k = absurd (subst (λ (b : Bool). T b) (sym is) tt)
   heap_out t p (Some x) is k = k x refl
 
+  -- the run that is held, out of what is owned at some pointer
   pub held_out : K → (d : held.the_row.Denot) (vs : List Val) → IsSome d.run
       → ((b o : ℕ) (x : Run ℕ) → d.at ≡ block_ptr b o → d.run ≡ Some x → vs ≡ one_ptr b o ∷ [] → Seq K 𝓛 (‵ (boxed _ (block_ptr b o) x) ∷ Γ) G)
       → Seq K 𝓛 (‵ (held.the_row.own_val d vs) ∷ Γ) G
   held_out t d vs is k =
-      fsplit t $ fpick t (λ vss. fsplit t $ feq_l t (λ ev. fsplit t $ feq_l t (λ ep. drop t $ heap_out t d.at d.run is (λ x same.
+      let At : List Val → List Val = λ ps. vstruct (of_list (ps ++ [])) ∷ [] in
+      fsplit t $ fpick t (λ vss. fsplit t $ feq_l t (λ of_field. fsplit t $ feq_l t (λ of_ptr. drop t $ heap_out t d.at d.run is (λ x same.
       in_a_block t d.at (λ p. boxed _ p x) (fst∗ 𝓤 (never 𝓤) (sem 𝓛 (ghosts.dealloc_token _ (bare (lone opened.the_row.mir)) null_ptr)))
-      (λ b o e. k b o x e same
-      (subst (λ (p : Ptr). vs ≡ vstruct (of_list (ptr_val p ∷ [])) ∷ []) e
-      (subst (λ (ps : List Val). vs ≡ vstruct (of_list (ps ++ [])) ∷ []) ep ev)))))))
+      (λ b o e. k b o x e same (of_field ∙ ap At (of_ptr ∙ ap (λ (p : Ptr). ptr_val p ∷ []) e)))))))

@@ -32,7 +32,8 @@ function shapeMark(palette, shape) {
 
 // The items, each with how its mark is drawn by a pen, how wide that is, and what it means.
 export function legendItems(run, palette) {
-  const actors = run.actors.names.map((text, actor) => ({ text, actor, width: BADGE, draw: pen => run.actors.drawBadge(pen, palette, actor, 0, 0) }));
+  const named = run.actors.names.map((text, actor) => ({ text, actor, width: BADGE, draw: pen => run.actors.drawBadge(pen, palette, actor, 0, 0) }));
+  const actors = named.filter(({ actor }) => run.isCaller(actor));
   const marks = [
     [colourMark(palette.unread), "to read"], [colourMark(palette.lag), "lost: overwritten before it was read"],
     [pen => drawStretch(pen, palette, { x: 0, end: SIZE }, 2, SIZE - 4, false), "lost, and nobody was told"], [colourMark(palette.unseen), "value not seen"],

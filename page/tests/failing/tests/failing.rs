@@ -200,8 +200,8 @@ fn the_last_tick_arrives() {
         ticks.send(tick).unwrap();
         assert_eq!(reader.try_recv(), Ok(tick));
     }
-    (0..4).for_each(|tick| drop(ticks.send(tick)));
-    assert_eq!(reader.try_recv(), Ok(0));
+    (0..4).for_each(|tick| drop(ticks.send(tick))); // four ticks are sent
+    assert_eq!(reader.try_recv(), Ok(0)); // the last tick is received
 }
 
 #[test]

@@ -1,14 +1,14 @@
 -- `of` takes a box's pointer, and the right to free its block with it.
-use Rattle.std.proofs.Common.{◌≡◌, List, [], ◌∷◌, ◌++◌, refl, sym, ap, ◌∙◌, subst}
+use Rattle.std.proofs.Common.{◌≡◌, List, [], ◌∷◌, ◌++◌, refl, ap, ◌∙◌}
 use mir.Raw.{raw as bare}
 use mir.Syntax.{Fn}
 use mir.Val.{Val}
-use base.Logic.{SProp, ent, emp, never, id⊢, fst∗}
+use base.Logic.{SProp, emp, never, id⊢, fst∗}
 use base.Fml.{Lft, ftrue, flft}
 use base.Fraction.{full_share}
 use prog.Wp.{WpFn}
 use types.Logic.{sem}
-use types.Kit.{‵, raw, ◌⊛◌, some, later, ◌$◌, ◌∵◌, !, qed, by, move, keep, drop, split, join, fsplit, fjoin, feq_l, pick, await, suffices, use0, use1}
+use types.Kit.{‵, raw, ◌⊛◌, some, later, ◌$◌, ◌∵◌, !, qed, by, move, keep, drop, split, join, fsplit, fjoin, feq_l, pick, await, regoal, prop, use0, use1}
 use types.Run.{of_opd, no_more, and_then, returns, enter}
 use types.ByLocal.{alloc_all, pass_all, free_all, look_at, get, sets, lands_as}
 use types.Part.{agg}
@@ -63,7 +63,7 @@ of_spec {M = M} 𝓤 𝓛 𝓜 𝓡 wired =
     let Run : List Val → SProp 𝓤 = λ ws. WpFn 𝓤 H 𝓣.C 𝓣.Λ fn ws Post in
     qed 𝓛 ((raw (alive 𝓛 En.signature z.0.0 z.0.1) ⊛ ‵ (owns (types_at En.signature.params z.0.0) z.0.3 z.0.4)) ∷ ‵ ftrue ∷ []) ∵ move ! (1 ∷ []) $ drop ! $
     split ! $ move ! (1 ∷ []) $ fsplit ! $ box_tells ! v z.0.4.0 (λ w ws typed.
-    suffices ! (Run (w ∷ [])) (subst (λ (us : List Val). ent 𝓤 (Run (w ∷ [])) (Run us)) (sym (λ i. ws i ++ [])) (id⊢ 𝓤 (Run (w ∷ [])))) $
+    regoal ! (λ us. prop (Run us)) (ap (λ us. us ++ []) ws) refl $
     enter ! 𝓣.C 𝓣.Λ fn (w ∷ []) Post $ alloc_all ! (λ l. pass_all ! refl (typed, tt) $
     sets ! (of_opd ! (get ! refl)) refl typed $
     -- the call wants a lifetime for each type, which may end at once
