@@ -6,7 +6,8 @@ use base.Logic.{SProp, emp, id⊢}
 use base.Fml.{Lft, ftrue, flft}
 use base.Fraction.{full_share}
 use prog.Wp.{WpFn}
-use types.Kit.{‵, raw, ◌⊛◌, some, later, at_ret, ◌$◌, ◌∵◌, !, qed, by, move, keep, drop, split, split3, join, fsplit, fjoin, feq_i, pick, await, rewrite, regoal, prop, use0, use1}
+use types.Kit.{‵, raw, ◌⊛◌, some, later, at_ret, ◌$◌, ◌∵◌, !, qed, by, move, keep, drop, split, split3, join, fsplit, fjoin}
+use types.Kit.{feq_i, pick, await, rewrite, regoal, prop, use0, use1}
 use types.Run.{stop, fld, of_opd, no_more, and_then, first, blocks, exec, returns, enter}
 use types.ByLocal.{alloc_all, pass_all, free_all, look_at, get, get_in, sets, lands_last, env}
 use types.Part.{sub, whole}

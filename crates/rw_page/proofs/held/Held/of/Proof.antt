@@ -41,7 +41,8 @@ use Rattle.std_heap.proofs.Global.TheLaws as heap_laws
 use Rattle.std_heap.proofs.GlobalAllocator.TheImpl.Met.{passed}
 use Rattle.rw_page.specs.contracts.opened.Opened as opened
 use Rattle.rw_page.proofs.opened.Opened.TheLaws as opened_laws
-use Rattle.rw_page.proofs.Pointers.{boxed, one_ptr, Inner, inner_laws, Handle, handle_laws, handle_drops, handle_freed, opened_drops, opened_freed, box_tells, held_in}
+use Rattle.rw_page.proofs.Pointers.{boxed, one_ptr, Inner, inner_laws, Handle, handle_laws, handle_drops, handle_freed}
+use Rattle.rw_page.proofs.Pointers.{opened_drops, opened_freed, box_tells, held_in}
 use Rattle.rw_page.specs.contracts.held.Held.of.{ended, clauses}
 use Rattle.rw_page.specs.contracts.held.Held.of.Key.{name as #self}
 use Rattle.rw_page.proofs.held.Held.of.Statement.{statement}
@@ -51,7 +52,8 @@ pub of_spec : {M : Type 1} → statement M
 of_spec {M = M} 𝓤 𝓛 𝓜 𝓡 wired =
     let H = 𝓛.H in let 𝓣 = tables 𝓤 H 𝓜 𝓡 𝓡.env in let R : RattleType = opened.the_row in let Z : RattleType = heap.the_row in
     let Whole : RattleType = box.the_row R Z ghosts in let En = ended in let c = clauses 𝓛 𝓜.mem 𝓡.returns in let fn : Fn = code.function in
-    let Opens = triple_of 𝓛 (callee.signature Inner Handle ghosts dict handle_drops opened_drops) (callee.spec Inner Handle ghosts dict handle_drops opened_drops 𝓛 𝓜.mem 𝓡.returns) in
+    let Opens = triple_of 𝓛 (callee.signature Inner Handle ghosts dict handle_drops opened_drops)
+    (callee.spec Inner Handle ghosts dict handle_drops opened_drops 𝓛 𝓜.mem 𝓡.returns) in
     let opens = met 𝓤 𝓛 𝓜 𝓡 (code.calls-std_alloc::boxed::Box::into_raw 𝓡.env wired) Inner Handle inner_laws handle_laws ghosts dict handle_drops opened_drops
     (passed 𝓡.env (code.calls-std_heap::GlobalAllocator::allocate 𝓡.env wired) (code.calls-std_heap::GlobalAllocator::deallocate 𝓡.env wired)
     (code.calls-std_heap::GlobalAllocator::grow 𝓡.env wired) (code.calls-std_heap::GlobalAllocator::shrink 𝓡.env wired) M 𝓤 𝓛 𝓜 𝓡)
