@@ -12,7 +12,7 @@ const COVERED: &[(&str, &str, &str)] = &[
     ("rw_broadcast/src/machine/reversible.rt", "ready", "Broadcast, handles"),
     ("rw_broadcast/src/machine/steps.rt", "step", "Broadcast, handles"),
     ("rw_console/src/command.rt", "command_of", "none: a command of more bytes than a line may have is a bad one, as are all of so many"),
-    ("rw_console/src/debugging.rt", "debug", "debug, bytes"),
+    ("rw_console/src/debugging.rt", "debug_again", "debug, bytes"),
     ("rw_console/src/sessions.rt", "session", "session, bytes"),
     ("rw_console/src/walk.rt", "keep_index", "debug, indexes"),
     ("rw_desk/src/desk.rt", "refusal_to_open", "Desk::open, actors"),
