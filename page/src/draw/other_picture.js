@@ -62,20 +62,22 @@ export class OtherPicture {
     this.dots = new ActorDots(run);
   }
 
-  // The places of the other run that stand in the columns in view.
+  // The places of the other run that stand in the columns in view. Its lead stands in none.
   get view() {
-    const { axis } = this.compared;
     const { view } = this.screen;
-    const from = axis.placeAt(view.from);
-    const to = axis.placeAt(view.to + 0.999);
+    const from = this.placeAt(view.from);
+    const to = this.placeAt(view.to + 0.999);
     return { from, to, place: this.place, stride: view.stride, drawnPlaces: view.stride > 1 ? [] : Array.from({ length: to - from + 1 }, (_, i) => from + i) };
   }
 
   // The place there that belongs to the one here: that of the same call, or the last one that stands before it.
   get place() {
-    const { axis, partners } = this.compared;
     const { place } = this.screen.view;
-    return partners[place] || axis.placeAt(place);
+    return this.compared.partners[place] || this.placeAt(place);
+  }
+
+  placeAt(column) {
+    return Math.max(this.run.lead, this.compared.axis.placeAt(column));
   }
 
   get missing() {

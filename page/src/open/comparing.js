@@ -20,7 +20,7 @@ function placesWhere(numbers, is) {
 function placed(found, other) {
   const { kinds, partners, back } = found;
   const differing = placesWhere(kinds, kind => kind > 0);
-  const only = placesWhere(back, place => place === 0);
+  const only = placesWhere(back, place => place === 0).filter(place => place > other.lead);
   const partnersOfThem = differing.map(place => partners[place]).filter(place => place > 0);
   return { ...found, axis: new OtherAxis(partners, other.lastPlace), differing, differingThere: [...partnersOfThem, ...only].sort((a, b) => a - b) };
 }

@@ -114,12 +114,12 @@ struct Both {
 }
 
 fn differing(here: &Side<'_>, there: &Side<'_>) -> Vec<Differing> {
-    let mut has_partner = vec![false; there.calls.len()];
+    let mut has_partner = vec![false; there.len() as usize];
     let mut found = vec![];
-    for (place, call) in (1..).zip(&here.calls) {
+    for (place, call) in here.calls() {
         let partner = there.partner_of(call);
         if let Some(partner) = partner {
-            has_partner[partner as usize - 1] = true;
+            has_partner[there.index(partner)] = true;
         }
         if let Some(kind) = kind_of((here, call), (there, partner)) {
             found.push(Differing {
@@ -129,8 +129,8 @@ fn differing(here: &Side<'_>, there: &Side<'_>) -> Vec<Differing> {
             });
         }
     }
-    let only = (1..).zip(has_partner).filter(|(_, has)| !has);
-    found.extend(only.map(|(place, _)| Differing {
+    let only = there.calls().zip(has_partner).filter(|(_, has)| !has);
+    found.extend(only.map(|((place, _), _)| Differing {
         kind: DiffersBy::More,
         here: None,
         there: Some(place),

@@ -48,20 +48,20 @@ export function align(...runs) {
   const partners = new Uint32Array(here.length + 1);
   const kinds = new Uint8Array(here.length + 1);
   const back = new Uint32Array(there.length + 1);
-  for (const call of here.calls.slice(1)) {
+  for (const call of here.calls.slice(here.lead + 1)) {
     const partner = there.partnerOf(call);
     kinds[call.place] = KINDS.indexOf(kindOf(here, there, call, partner));
     if (partner === null) continue;
     partners[call.place] = partner.place;
     back[partner.place] = call.place;
   }
-  return { here, there, partners, kinds, back, first: firstOf(kinds, partners, back) };
+  return { here, there, partners, kinds, back, first: firstOf(kinds, partners, back, there.lead) };
 }
 
 // The first difference: of a call here, or if none differs, of a call that is only there. It is null where the runs are the same.
-function firstOf(kinds, partners, back) {
+function firstOf(kinds, partners, back, leadThere) {
   const place = kinds.findIndex(kind => kind > 0);
   if (place > 0) return { kind: KINDS[kinds[place]], here: place, there: partners[place] || null };
-  const only = back.indexOf(0, 1);
+  const only = back.indexOf(0, leadThere + 1);
   return only > 0 ? { kind: "more", here: null, there: only } : null;
 }

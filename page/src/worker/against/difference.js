@@ -50,6 +50,8 @@ function cells(word, side, place) {
 function callsOf({ partners, back }, { here, there }, about) {
   const sorted = places => [...new Set(places)].filter(place => place > 0).sort((a, b) => a - b);
   if (about === null) return [sorted([here]), sorted([there])];
+  // A channel that a lead closes was closed by no call of the run.
+  if (about.isOfLead) return [[here], [there]];
   const [placeHere, placeThere] = about.isHere ? [about.place, partners[about.place]] : [back[about.place], about.place];
   return [sorted([here, placeHere]), sorted([there, placeThere])];
 }
@@ -62,10 +64,11 @@ function aboutOrder(alignment, { here: place, there: other }) {
   if (a.sends !== b.sends) {
     const isHere = a.sends > b.sends;
     const first = isHere ? channelHere.sends[b.sends] : channelThere.sends[a.sends];
-    return { isHere, place: first, sends: Math.abs(a.sends - b.sends) };
+    return { isHere, place: first, sends: Math.abs(a.sends - b.sends), isOfLead: false };
   }
   const isHere = a.closedAt > 0;
-  return { isHere, place: isHere ? channelHere.closedAt : channelThere.closedAt, sends: 0 };
+  const [side, { closedAt }] = isHere ? [here, channelHere] : [there, channelThere];
+  return { isHere, place: closedAt, sends: 0, isOfLead: closedAt <= side.lead };
 }
 
 function orderText({ isHere, sends }) {
@@ -92,10 +95,10 @@ function headOf(alignment, first, about, run) {
 
 // How many calls there are, differ, and are in one run alone.
 function countsOf({ here, there, partners, kinds, back }) {
-  const onlyHere = partners.reduce((sum, partner) => sum + Number(partner === 0), -1);
-  const onlyThere = back.reduce((sum, place) => sum + Number(place === 0), -1);
-  const differing = kinds.reduce((sum, kind) => sum + Number(kind > 0), 0) - onlyHere;
-  return { here: here.length, there: there.length, differing, onlyHere, onlyThere };
+  const onlyHere = here.count - partners.filter(partner => partner > 0).length;
+  const onlyThere = there.count - back.filter(place => place > 0).length;
+  const differing = kinds.filter(kind => kind > 0).length - onlyHere;
+  return { here: here.count, there: there.count, differing, onlyHere, onlyThere };
 }
 
 function countsText({ here, there, differing, onlyHere, onlyThere }) {
@@ -116,8 +119,8 @@ export function differenceOf(alignment) {
   return { first: { ...first, places: { here: placesHere, there: placesThere } }, counts, lines };
 }
 
-function sideOf({ journal, channels, lastPlace, names: { tables, waited, ending } }) {
-  const history = new History(journal, channels, lastPlace, [], waited);
+function sideOf({ journal, channels, lastPlace, names: { tables, waited, ending, window } }) {
+  const history = new History(journal, channels, lastPlace, [], waited, window);
   return { history, naming: new Naming(tables, waited, history), channels, hasFailed: ending.hasFailed };
 }
 

@@ -1,4 +1,7 @@
 // One of two runs that are compared: its calls, each with who made it, as the how manieth of its calls, and with what of it is the same in another run.
+// The lead of a window is none of its calls.
+
+import { numberOf } from "../../run/lead.js";
 
 const MAKES = { "clone-sender": "sender", upgrade: "sender", downgrade: "weak", "clone-weak": "weak" };
 const SENDS = new Set(["send", "send-replace", "modify"]);
@@ -8,8 +11,13 @@ function unmade(number) {
   return { kind: "none", key: `none ${number}` };
 }
 
-function newChannel(key) {
-  const handles = ["sender", "receiver"].map(kind => ({ kind, key: `first ${kind}` }));
+// What a handle is to both runs that was there before the window, or before all calls: by its real number.
+function handleKey(window, channel, number) {
+  return `handle ${numberOf(window, channel, number)}`;
+}
+
+function newChannel(key, window, number) {
+  const handles = ["sender", "receiver"].map((kind, handle) => ({ kind, key: handleKey(window, number, handle) }));
   return { key, sends: [], senders: 1, closedAt: 0, made: new Map(), handles };
 }
 
@@ -27,15 +35,31 @@ export class Side {
     this.hasFailed = hasFailed;
     this.isNamed = isNamed;
     this.length = history.length;
+    this.lead = history.lead;
     const { madeBy } = naming.tables;
-    this.channels = channels.map((head, number) => newChannel(channelKey(head, number, isMadeBy ? madeBy : null)));
+    this.channels = channels.map((head, number) => newChannel(channelKey(head, number, isMadeBy ? madeBy : null), history.window, number));
     // By actor, its key and the places of its calls; and by key the same.
     this.callers = [];
     this.byKey = new Map();
     // How many actors with a label have made their first call.
     this.labels = new Map();
+    // By place, and null for those of the lead.
     this.calls = [null];
-    for (let place = 1; place <= this.length; place++) this.calls.push(this.callAt(place));
+    for (let place = 1; place <= this.length; place++) this.calls.push(place <= this.lead ? this.pass(place) : this.callAt(place));
+  }
+
+  // How many calls there are.
+  get count() {
+    return this.length - this.lead;
+  }
+
+  // Passes over an entry of the lead, which nobody has called: it creates and drops handles.
+  pass(place) {
+    const { channel: number, word, handle, reply } = this.history.entry(place);
+    const channel = this.channels[number];
+    if (reply === "new") this.add(channel, word, handleKey(this.history.window, number, channel.handles.length));
+    this.noteDrop(channel, place, reply, channel.handles[handle]);
+    return null;
   }
 
   // What an actor is called that makes its first call at a place.
@@ -77,14 +101,23 @@ export class Side {
   note(channel, { place, entry, caller }, handle) {
     if (SENDS.has(entry.word)) channel.sends.push(place);
     if (entry.reply === "new") this.make(channel, entry.word, caller);
-    if (entry.reply === "dropped" && handle.kind === "sender" && --channel.senders === 0) channel.closedAt = place;
+    this.noteDrop(channel, place, entry.reply, handle);
+  }
+
+  noteDrop(channel, place, reply, handle) {
+    if (reply === "dropped" && handle.kind === "sender" && --channel.senders === 0) channel.closedAt = place;
   }
 
   make(channel, word, { key }) {
     const before = channel.made.get(key) ?? 0;
-    const kind = MAKES[word] ?? "receiver";
     channel.made.set(key, before + 1);
-    channel.handles.push({ kind, key: `${before} of ${key}` });
+    this.add(channel, word, `${before} of ${key}`);
+  }
+
+  // Adds the handle that a call of this word creates.
+  add(channel, word, key) {
+    const kind = MAKES[word] ?? "receiver";
+    channel.handles.push({ kind, key });
     if (kind === "sender") channel.senders++;
   }
 

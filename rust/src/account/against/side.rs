@@ -62,11 +62,11 @@ pub(super) struct SideChannel {
     made: BTreeMap<u32, u32>,
 }
 
-/// A run.
+/// A run. Of one that begins in a window, the lead is none of its calls.
 pub(super) struct Side<'a> {
     names: &'a Names,
     history: History,
-    pub(super) calls: Vec<SideCall>,
+    calls: Vec<SideCall>,
     pub(super) channels: Vec<SideChannel>,
     // By caller, the places of its calls.
     places: BTreeMap<u32, Vec<u64>>,
@@ -85,9 +85,7 @@ impl<'a> Side<'a> {
             history: History::of(run, names),
             calls: Vec::with_capacity(run.len() as usize),
             channels: specs
-                .map(|(number, spec)| {
-                    SideChannel::of(channel_text(names, spec, number, both), keys)
-                })
+                .map(|(number, spec)| SideChannel::of((names, number), spec, both, keys))
                 .collect(),
             places: BTreeMap::new(),
             callers: BTreeMap::new(),
@@ -95,13 +93,22 @@ impl<'a> Side<'a> {
             both,
         };
         for (place, entry) in run.entries() {
-            side.add(place, entry, keys);
+            if place <= names.lead() {
+                side.pass(place, &entry, keys);
+            } else {
+                side.add(place, entry, keys);
+            }
         }
         side
     }
 
     pub(super) fn len(&self) -> u64 {
         self.calls.len() as u64
+    }
+
+    /// The calls with their places.
+    pub(super) fn calls(&self) -> impl Iterator<Item = (u64, &SideCall)> {
+        (self.names.lead() + 1..).zip(&self.calls)
     }
 
     pub(super) fn naming(&self) -> Naming<'_> {
@@ -118,12 +125,34 @@ impl<'a> Side<'a> {
 
     /// Returns the call that led to a place.
     pub(super) fn call(&self, place: u64) -> &SideCall {
-        &self.calls[place as usize - 1]
+        &self.calls[self.index(place)]
+    }
+
+    /// Returns which of the calls led to a place.
+    pub(super) fn index(&self, place: u64) -> usize {
+        (place - self.names.lead()) as usize - 1
+    }
+
+    /// Returns whether a place is that of a call.
+    pub(super) fn has_call(&self, place: u64) -> bool {
+        place > self.names.lead()
     }
 
     /// Returns the place of the call by the same caller with the same number.
     pub(super) fn partner_of(&self, call: &SideCall) -> Option<u64> {
         self.places.get(&call.caller)?.get(call.nth).copied()
+    }
+
+    /// Passes over an entry of the lead, which nobody has called: it creates and drops handles.
+    fn pass(&mut self, place: u64, entry: &RunEntry, keys: &mut Keys) {
+        let channel = &mut self.channels[entry.channel as usize];
+        let kind = channel.handle(entry.handle, keys).kind;
+        if let Reply::New(_) = entry.reply {
+            let number = channel.handles.len() as u64;
+            let text = handle_text(self.names, entry.channel, number);
+            channel.add(entry.word, text, keys);
+        }
+        channel.note_drop(place, entry, kind);
     }
 
     /// Adds a call with what came before it on its channel. What it does itself counts for those
@@ -236,23 +265,32 @@ fn channel_text(names: &Names, spec: &Spec<u64>, number: u64, both: Both) -> Str
     }
 }
 
+/// Returns what a handle is to both runs that was there before the window, or before all calls: by
+/// its real number.
+fn handle_text(names: &Names, channel: u32, number: u64) -> String {
+    format!("handle {}", names.handle_number(channel, number))
+}
+
 impl SideChannel {
-    fn of(text: String, keys: &mut Keys) -> SideChannel {
-        let first = [
-            (HandleKind::Sender, "first sender"),
-            (HandleKind::Receiver, "first receiver"),
-        ];
+    fn of(
+        (names, number): (&Names, u32),
+        spec: &Spec<u64>,
+        both: Both,
+        keys: &mut Keys,
+    ) -> SideChannel {
+        let text = channel_text(names, spec, number.into(), both);
+        let first = (0..).zip([HandleKind::Sender, HandleKind::Receiver]);
         SideChannel {
             key: keys.of(text),
             sends: vec![],
             closed_at: 0,
             senders: 1,
             handles: first
-                .map(|(kind, text)| SideHandle {
+                .map(|(handle, kind)| SideHandle {
                     kind,
-                    key: keys.of(text.to_string()),
+                    key: keys.of(handle_text(names, number, handle)),
                 })
-                .to_vec(),
+                .collect(),
             made: BTreeMap::new(),
         }
     }
@@ -279,28 +317,38 @@ impl SideChannel {
         if is_send(entry.word) {
             self.sends.push(place);
         }
-        match entry.reply {
-            Reply::New(_) => self.make(entry.word, caller, keys),
-            Reply::Dropped if kind == HandleKind::Sender => {
-                self.senders -= 1;
-                if self.senders == 0 {
-                    self.closed_at = place;
-                }
-            }
-            _ => {}
+        if let Reply::New(_) = entry.reply {
+            self.make(entry.word, caller, keys);
+        }
+        self.note_drop(place, entry, kind);
+    }
+
+    fn note_drop(&mut self, place: u64, entry: &RunEntry, kind: HandleKind) {
+        if entry.reply != Reply::Dropped || kind != HandleKind::Sender {
+            return;
+        }
+        self.senders -= 1;
+        if self.senders == 0 {
+            self.closed_at = place;
         }
     }
 
     fn make(&mut self, word: Word, caller: u32, keys: &mut Keys) {
+        let before = self.made.entry(caller).or_default();
+        let text = format!("made {before} by {caller}");
+        *before += 1;
+        self.add(word, text, keys);
+    }
+
+    /// Adds the handle that a call of this word creates.
+    fn add(&mut self, word: Word, text: String, keys: &mut Keys) {
         let kind = match word {
             Word::CloneSender | Word::Upgrade => HandleKind::Sender,
             Word::Downgrade | Word::CloneWeak => HandleKind::WeakSender,
             _ => HandleKind::Receiver,
         };
         self.senders += u32::from(kind == HandleKind::Sender);
-        let before = self.made.entry(caller).or_default();
-        let key = keys.of(format!("made {before} by {caller}"));
-        *before += 1;
+        let key = keys.of(text);
         self.handles.push(SideHandle { kind, key });
     }
 }

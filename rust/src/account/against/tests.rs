@@ -155,3 +155,65 @@ fn channels_are_the_same_by_their_makers() {
     let wanted = "the first difference: call 1, `t` made another call in the other run";
     assert_eq!(lines(names(0, 1), names(0, 1))[0], wanted);
 }
+
+#[test]
+fn a_lead_is_no_part_of_what_is_compared() {
+    // Of two dumps of one test, the first begins two values earlier, so that its lead is longer. In
+    // both receiver 2 is the one that the channel created as the 42nd of its handles.
+    let names = |lead, failed| {
+        format!(
+            r#"{{"actors": {{"0": "shop", "1": "audit", "63": "before the window"}}, "failed": {failed},
+            "window": {{"trigger": "call", "reason": "asked", "at": null, "lead": {lead}, "channels": {{"0":
+            {{"lead": {lead}, "calls": 900, "sent": 450, "handles": [0, 1, 41], "lags": {{}}}}}}}}}}"#
+        )
+    };
+    let short = [
+        "63 0 subscribe 0 = new 2",
+        "63 0 drop 1 = dropped",
+        "0 0 send 0 7 = sent 1",
+        "1 0 recv 2 = value 7",
+    ];
+    let long = [
+        "63 0 send 0 5 = sent 1",
+        "63 0 subscribe 0 = new 2",
+        "63 0 send 0 6 = sent 2",
+        "63 0 drop 1 = dropped",
+        "0 0 send 0 7 = sent 1",
+        "1 0 recv 2 = value 6",
+    ];
+    let (a, b) = (names(4, true), names(2, false));
+    let wanted = [
+        "the first difference: call 6, `audit` got another reply in the passing run",
+        "  here    call 6   channel 0: recv()   audit  value 6",
+        "  there   call 4   channel 0: recv()   audit  value 7",
+        "2 calls here, 2 calls there: 1 differs",
+    ];
+    let lines = against((&long, &a), (&short, &b));
+    assert_eq!(lines, wanted);
+    let lines = against((&long[..5], &a), (&short, &b));
+    let wanted = "the first difference: call 4 of the passing run, `audit` doesn't make it here";
+    assert_eq!((lines[0].as_str(), lines.len()), (wanted, 3));
+    // Another receiver in its place makes another call.
+    let other = b.replace("41", "42");
+    let lines = against((&short, &other), (&short, &b));
+    let wanted = "the first difference: call 4, `audit` made another call in the other run";
+    assert_eq!(lines[0], wanted);
+}
+
+#[test]
+fn a_close_by_a_lead_is_no_call() {
+    let names = r#"{"actors": {"0": "shop", "1": "audit"}, "window": {"trigger": "call", "reason": "asked", "at": null, "lead": 1,
+        "channels": {"0": {"lead": 1, "calls": 900, "sent": 0, "handles": [0, 1], "lags": {}}}}}"#;
+    let here = ["63 0 drop 0 = dropped", "1 0 try-recv 1 = closed"];
+    let there = ["1 0 try-recv 1 = empty"];
+    let lines = against((&here, names), (&there, FAILED));
+    let wanted = [
+        "the first difference: call 2, `audit` received before the close in the failing run",
+        "  here    call 2   channel 0: try_recv()   audit  closed",
+        "  there   call 1   orders.try_recv()      audit  empty",
+        "1 call here, 1 call there: 1 differs",
+    ];
+    assert_eq!(lines[0], wanted[0]);
+    assert_eq!(lines[3], wanted[3]);
+    assert_eq!(lines.len(), 4);
+}

@@ -62,9 +62,12 @@ fn rows(here: &Side<'_>, there: &Side<'_>, first: &Differing, about: Option<&Abo
     if let Some(about) = about {
         let sides = [here, there];
         let own = usize::from(!about.is_here);
-        let partner = sides[1 - own].partner_of(sides[own].call(about.place));
-        places[own].push(about.place);
-        places[1 - own].extend(partner);
+        // A channel that a lead closes was closed by no call of the run.
+        if sides[own].has_call(about.place) {
+            let partner = sides[1 - own].partner_of(sides[own].call(about.place));
+            places[own].push(about.place);
+            places[1 - own].extend(partner);
+        }
     }
     let mut rows = vec![];
     for ((word, side), mut places) in [("here", here), ("there", there)].into_iter().zip(places) {
