@@ -33,7 +33,6 @@ PROCESSOR_MARGIN = 3
 
 # How far into a pool its jump leads, and how many megabytes the tab's process may have had by then.
 JUMP, MOST_MEGABYTES = 0.77, 600
-MEGABYTE_MARGIN = 1.2
 
 # When the state at the first place is shown.
 WATCH = """new MutationObserver((_, observer) => {
@@ -123,7 +122,7 @@ def pool(tab, folder, size, promised):
           + f"; {megabytes} MB")
     assert all(took[name] < PROCESSOR_MARGIN * most for name, most in promised.items()), "takes more of processors than it may"
     # A shorter one may be in a process that has had longer ones.
-    assert size[2] < LONG or megabytes < MEGABYTE_MARGIN * MOST_MEGABYTES, "takes more of memory than it may"
+    assert size[2] < LONG or megabytes <= MOST_MEGABYTES, "takes more of memory than it may"
 
 
 def mean_step(tab):

@@ -96,7 +96,7 @@ export class Comparing {
   async opened(source) {
     this.client?.stop();
     this.client = this.newClient();
-    const opened = await this.client.request("open", source.bytes, []);
+    const opened = await this.client.open(source.bytes, []);
     if (opened.fault) {
       tell(outside(source.name), ` can't be compared. ${wrongLine(opened.fault, source.bytes).replace(/^l/, "L")}.`);
       return null;

@@ -201,7 +201,7 @@ export class Opener {
   }
 
   async openText(bytes, places) {
-    const opened = await this.client.request("open", bytes, places);
+    const opened = await this.client.open(bytes, places);
     opened.journal ??= bytes;
     return opened;
   }

@@ -24,10 +24,21 @@ export class Client {
   }
 
   request(request, ...values) {
+    return this.send(request, values, []);
+  }
+
+  // Requests to open a run. The worker is handed a copy of its bytes: while a message is copied, a browser has them once more.
+  open(bytes, places) {
+    const copy = bytes.slice();
+    return this.send("open", [copy, places], [copy.buffer]);
+  }
+
+  // Sends a request, and hands over some of its buffers.
+  send(request, values, handedOver) {
     return new Promise((resolve, reject) => {
       const number = ++this.count;
       this.waiting.set(number, { resolve, reject });
-      this.worker.postMessage({ number, request, values });
+      this.worker.postMessage({ number, request, values }, { transfer: handedOver });
     });
   }
 }
