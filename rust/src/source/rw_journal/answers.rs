@@ -1,7 +1,7 @@
 //! Results of a call on a book.
 // From crates/rw_journal/src/answers.rt, with its contracts as comments. //+
 
-use crate::source::rw_law::Reversible;
+use crate::source::rw_law::{NoMemory, Reversible};
 //~ use thiserror::Error;
 
 /// What the caller of a recorded call gets from its entry.
@@ -31,6 +31,17 @@ pub enum TakeFault {
     /// The machine has no channel for the call.
 //~     #[error("no such channel")]
     NoChannel,
+}
+
+impl From<NoMemory> for TakeFault {
+//~     ghost use Rattle.std.specs.Prelude.{◌≡◌};
+//~     ghost use Rattle.rw_journal.specs.declared.answers.TakeFault.TheVariants as take;
+
+//~     ghost from_gives = { λ _ fault. fault ≡ take.NoMemory };
+
+    fn from(_error: NoMemory) -> TakeFault {
+        TakeFault::NoMemory
+    }
 }
 impl core::fmt::Display for TakeFault { //+
     fn fmt(&self, f: &mut core::fmt::Formatter<'_>) -> core::fmt::Result { //+
