@@ -5,8 +5,8 @@ use Rattle.rw_lines.specs.declared.streams.StreamFault.{StreamFault}
 use Rattle.rw_lines.specs.declared.streams.StreamFault.TheVariants.{Read, Write, TooMuch, NoMemory}
 use Rattle.rw_console.specs.declared.sessions.Outcome.{Outcome}
 use Rattle.rw_console.specs.declared.sessions.Outcome.TheVariants.{Done, Refused, Waited}
-use Rattle.rw_script.specs.declared.running.RunFault.{RunFault}
-use Rattle.rw_script.specs.declared.running.RunFault.TheVariants as run
+use Rattle.rw_script.specs.declared.threads.RunFault.{RunFault}
+use Rattle.rw_script.specs.declared.threads.RunFault.TheVariants as run
 
 -- 0 done, 1 the script refused, 3 a call would wait, 4 a fault of reading or writing, 5 no memory
 abbrev pub status_of : Result Outcome StreamFault → ℕ

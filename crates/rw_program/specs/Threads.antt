@@ -5,7 +5,7 @@ use Rattle.rw_journal.specs.Run.{Run}
 use Rattle.rw_law.specs.Numbers.{numbers}
 use Rattle.rw_lines.specs.Lines.{lines}
 use Rattle.rw_script.specs.declared.faults.ScriptFault.{ScriptFault}
-use Rattle.rw_script.specs.declared.running.RunFault.{RunFault}
+use Rattle.rw_script.specs.declared.threads.RunFault.{RunFault}
 use Rattle.rw_script.specs.Script.{Script, script_in}
 use Rattle.rw_script.specs.Threads.{IsRunOf}
 use Rattle.rw_text.specs.Texts.{text}

@@ -13,8 +13,8 @@ use Rattle.rw_world.specs.declared.opening.Spec.TheVariants as spec
 use Rattle.rw_script.specs.declared.faults.ScriptFaultKind.{ScriptFaultKind}
 use Rattle.rw_script.specs.declared.faults.ScriptFaultKind.TheVariants as kind
 use Rattle.rw_script.specs.declared.faults.ScriptFault.{ScriptFault}
-use Rattle.rw_script.specs.declared.head.HeadLine.{HeadLine}
-use Rattle.rw_script.specs.declared.head.HeadLine.TheVariants.{Broadcast, Watch, Actors}
+use Rattle.rw_script.specs.declared.said.HeadLine.{HeadLine}
+use Rattle.rw_script.specs.declared.said.HeadLine.TheVariants.{Broadcast, Watch, Actors}
 use Rattle.rw_script.specs.Fields.{fields_in, named_in}
 use Rattle.rw_world.specs.declared.kinds.ChannelKind.{ChannelKind}
 use Rattle.rw_world.specs.Channel.{makes}

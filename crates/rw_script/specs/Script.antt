@@ -18,8 +18,8 @@ use Rattle.rw_script.specs.declared.faults.ScriptFaultKind.{ScriptFaultKind}
 use Rattle.rw_script.specs.declared.faults.ScriptFaultKind.TheVariants.{TooLong, Syntax, BadCapacity, TooManyChannels, BadActors}
 use Rattle.rw_script.specs.declared.faults.ScriptFaultKind.TheVariants.{UnknownActor, UnknownChannel, NameTaken, TooManySteps, NoChannels}
 use Rattle.rw_script.specs.declared.faults.ScriptFault.{ScriptFault}
-use Rattle.rw_script.specs.declared.head.HeadLine.{HeadLine}
-use Rattle.rw_script.specs.declared.head.HeadLine.TheVariants.{Broadcast, Watch, Actors}
+use Rattle.rw_script.specs.declared.said.HeadLine.{HeadLine}
+use Rattle.rw_script.specs.declared.said.HeadLine.TheVariants.{Broadcast, Watch, Actors}
 use Rattle.rw_script.specs.declared.steps.ScriptStep.{ScriptStep}
 use Rattle.rw_words.specs.Arguments as option
 use Rattle.rw_script.specs.Fields.{fields_in}

@@ -5,8 +5,9 @@ ghost use Rattle.rw_world.specs.Lists.{Each};
 ghost use Rattle.rw_script.specs.Running.{call_of};
 ghost use Rattle.rw_script.specs.Threads.{IsFollowed, Moves, call_kept};
 
-use crate::running::{NEVER_MADE, RunFault, filled, made_by, push_handle};
+use crate::running::{NEVER_MADE, filled, made_by, push_handle};
 use crate::steps::ScriptStep;
+use crate::threads::RunFault;
 use rw_desk::{Kept, Pass};
 use std::alloc::Global;
 

@@ -7,10 +7,8 @@
 #![tactic(auto)]
 
 mod faults;
-mod fields;
 mod following;
 mod gate;
-mod head;
 mod names;
 mod reader;
 mod running;
@@ -23,7 +21,7 @@ mod threads;
 pub use faults::{ScriptFault, ScriptFaultKind};
 pub use gate::Gate;
 pub use reader::{MOST_STEPS, ScriptReader, is_mark};
-pub use running::{Played, RunFault, play, run_one};
+pub use running::{Played, play, run_one};
 pub use script::Script;
 pub use steps::ScriptStep;
-pub use threads::run_threads;
+pub use threads::{RunFault, run_threads};

@@ -12,10 +12,8 @@ ghost use Rattle.rw_script.specs.StepLines.{said_of, target_in};
 ghost use Rattle.rw_words.specs.Words.{map_ok};
 
 use crate::faults::{ScriptFault, ScriptFaultKind};
-use crate::fields::fields_of;
-use crate::head::HeadLine;
 use crate::names::Names;
-use crate::said::{SaidCall, read_said};
+use crate::said::{HeadLine, SaidCall, fields_of, read_said};
 use crate::script::Script;
 use crate::steps::ScriptStep;
 use rw_law::MOST_ACTORS;

@@ -1,17 +1,79 @@
-//! The text of a call in a script, where names may stand for handles.
+//! What a line of a script says: a head line, or the fields of a step line and its call, where names may stand for handles.
 
-ghost use Rattle.std.specs.Prelude.{◌≡◌, ◌++◌, option_map, false, true, IfOk};
+ghost use Rattle.std.specs.Prelude.{◌≡◌, ◌++◌, option_map, false, true, IfOk, IfSome};
 ghost use Rattle.rw_world.specs.Channel.{strays_at};
 ghost use Rattle.rw_lines.specs.Cut.{lacks};
 ghost use Rattle.rw_words.specs.Arguments.{rest_text};
-ghost use Rattle.rw_script.specs.Fields.{bound_in, handle_text, name_in, without_binding};
+ghost use Rattle.rw_script.specs.Fields.{bound_in, fields_in, handle_text, name_in, number_field, without_binding};
+ghost use Rattle.rw_script.specs.Script.{head_in, head_with};
 ghost use Rattle.rw_script.specs.StepLines.{said_by, said_in, said_of};
 ghost use Rattle.rw_words.specs.Words.{map_ok};
 
 use crate::faults::ScriptFaultKind;
-use rw_lines::{cut, is_name};
+use rw_lines::{cut, is_name, is_word, numeral};
 use rw_words::{first_word, read_call, read_split_call};
 use rw_world::{ChanCall, ChannelKind};
+
+/// A line at the head of a script: a word and a numeral.
+#[derive(Clone, Copy)]
+pub(crate) enum HeadLine {
+    /// A channel line: a broadcast of this capacity.
+    Broadcast(u64),
+    /// A channel line: a watch of this value.
+    Watch(u64),
+    /// The line with the number of actors.
+    Actors(u64),
+}
+
+impl HeadLine {
+    fn with(word: &[u8], number: u64) -> Option<HeadLine>
+        ensures { result ≡ head_with word.now number }
+    {
+        if word == b"broadcast".as_slice() {
+            Some(HeadLine::Broadcast(number))
+        } else if word == b"watch".as_slice() {
+            Some(HeadLine::Watch(number))
+        } else if word == b"actors".as_slice() {
+            Some(HeadLine::Actors(number))
+        } else {
+            None
+        }
+    }
+
+    /// Parses a line at the head.
+    #[tactic(auto, unfolding(crate::specs::Script::head_in))]
+    pub(crate) fn of(line: &[u8]) -> Option<HeadLine>
+        ensures { result ≡ head_in line.now }
+    {
+        let (word, number) = cut(line, b' ')?;
+        HeadLine::with(word, numeral(number)?)
+    }
+}
+
+/// Reads a numeral that a space follows, and returns its number and the rest.
+#[tactic(auto, unfolding(crate::specs::Fields::number_field))]
+fn number_field(text: &[u8]) -> Option<(u64, &[u8])>
+    ensures { option_map (λ p. (p.0, p.1.now)) result ≡ number_field text.now }
+{
+    let (token, rest) = cut(text, b' ')?;
+    Some((numeral(token)?, rest))
+}
+
+/// Returns the actor and the channel of a step line, and the text of its call, split into its first word and what follows.
+#[tactic(auto, unfolding(crate::specs::Fields::fields_in))]
+pub(crate) fn fields_of(line: &[u8]) -> Option<(u64, u64, &[u8], Option<&[u8]>)>
+    ensures fields { option_map (λ p. (p.0, p.1, p.2.now ++ rest_text (option_map (λ r. r.now) p.3))) result ≡ fields_in line.now }
+    ensures apart { IfSome result (λ p. lacks 32 p.2.now ≡ true) }
+{
+    let (actor, rest) = number_field(line)?;
+    let (channel, text) = number_field(rest)?;
+    let (word, rest) = first_word(text);
+    if is_word(word) {
+        Some((actor, channel, word, rest))
+    } else {
+        None
+    }
+}
 
 /// A call that may name its handle, and may bind a name.
 #[derive(Clone, Copy)]

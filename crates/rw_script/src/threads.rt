@@ -6,18 +6,44 @@ ghost use Rattle.rw_script.specs.Threads.{IsRunOf};
 
 use crate::following::follow_all;
 use crate::gate::Gate;
-use crate::running::{NEVER_MADE, RunFault, filled, made_by, push_handle};
+use crate::running::{NEVER_MADE, filled, made_by, push_handle};
 use crate::script::Script;
 use crate::start_latch::StartLatch;
 use crate::steps::ScriptStep;
 use rw_desk::{CloseFault, Desk, DeskFault, Pass};
 use rw_journal::Run;
-use rw_law::Entry;
+use rw_law::{Entry, NoMemory};
 use rw_world::{ChanCall, ChanReply, World};
 use std::alloc::Global;
 use std::sync::Wait;
 use std::thread;
 use std::thread::{JoinHandle, Threads};
+use thiserror::Error;
+
+/// Why the threads of a script return no run. If several apply, the first in this order is reported.
+#[derive(Clone, Copy, Debug, PartialEq, Eq, Error)]
+pub enum RunFault {
+    /// An allocation failed.
+    #[error("no memory")]
+    NoMemory,
+    /// Not all threads could be started, and no call was made.
+    #[error("no thread")]
+    NoThread,
+    /// A call of a desk failed, though no allocation did, or the desk's journals and receipts aren't a run of the script.
+    #[error("strayed")]
+    Strayed,
+}
+
+impl From<NoMemory> for RunFault {
+    ghost use Rattle.std.specs.Prelude.{◌≡◌};
+    ghost use Rattle.rw_script.specs.declared.threads.RunFault.TheVariants as run;
+
+    ghost from_gives = { λ memory fault. fault ≡ run.NoMemory };
+
+    fn from(_: NoMemory) -> RunFault {
+        RunFault::NoMemory
+    }
+}
 
 /// What an actor's calls are made on. Threads share it as a type parameter, so that their proof needn't look into a desk.
 trait Calls {

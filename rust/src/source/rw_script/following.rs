@@ -7,8 +7,9 @@ use crate::shim::Vec; //+
 //~ ghost use Rattle.rw_script.specs.Running.{call_of};
 //~ ghost use Rattle.rw_script.specs.Threads.{IsFollowed, Moves, call_kept};
 
-use crate::source::rw_script::running::{NEVER_MADE, RunFault, filled, made_by, push_handle};
+use crate::source::rw_script::running::{NEVER_MADE, filled, made_by, push_handle};
 use crate::source::rw_script::steps::ScriptStep;
+use crate::source::rw_script::threads::RunFault;
 use crate::source::rw_desk::{Kept, Pass};
 use crate::shim::alloc::Global;
 

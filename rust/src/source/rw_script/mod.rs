@@ -8,10 +8,8 @@
 // From crates/rw_script/src/lib.rt, with its contracts as comments. //+
 
 mod faults;
-mod fields;
 mod following;
 mod gate;
-mod head;
 mod names;
 mod reader;
 mod running;
@@ -24,7 +22,7 @@ mod threads;
 pub use faults::{ScriptFault, ScriptFaultKind};
 pub use gate::Gate;
 pub use reader::{MOST_STEPS, ScriptReader, is_mark};
-pub use running::{Played, RunFault, play, run_one};
+pub use running::{Played, play, run_one};
 pub use script::Script;
 pub use steps::ScriptStep;
-pub use threads::run_threads;
+pub use threads::{RunFault, run_threads};

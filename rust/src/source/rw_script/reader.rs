@@ -14,10 +14,8 @@ use crate::shim::Vec; //+
 //~ ghost use Rattle.rw_words.specs.Words.{map_ok};
 
 use crate::source::rw_script::faults::{ScriptFault, ScriptFaultKind};
-use crate::source::rw_script::fields::fields_of;
-use crate::source::rw_script::head::HeadLine;
 use crate::source::rw_script::names::Names;
-use crate::source::rw_script::said::{SaidCall, read_said};
+use crate::source::rw_script::said::{HeadLine, SaidCall, fields_of, read_said};
 use crate::source::rw_script::script::Script;
 use crate::source::rw_script::steps::ScriptStep;
 use crate::source::rw_law::MOST_ACTORS;

@@ -2,7 +2,7 @@
 // From crates/rw_script/src/running.rt, with its contracts as comments. //+
 use crate::shim::{SliceExt, Vec}; //+
 
-//~ ghost use Rattle.std.specs.Prelude.{◌≡◌, ◌<◌, ◌≤◌, ◌^◌, ◌++◌, ◌∷◌, [], None, false, if◌then◌else◌, length, IfErr, IfOk, OnOk, IsTrue, MatchOption};
+//~ ghost use Rattle.std.specs.Prelude.{◌≡◌, ◌<◌, ◌≤◌, ◌^◌, ◌++◌, ◌∷◌, [], None, false, if◌then◌else◌, length, IfOk, OnOk, IsTrue, MatchOption};
 //~ ghost use Rattle.rw_law.specs.declared.limits.TheConstants.{MOST_ACTORS, MOST_STAMP};
 //~ ghost use Rattle.rw_journal.specs.declared.book.TheConstants.{MOST_ENTRIES};
 //~ ghost use Rattle.rw_journal.specs.Book.{last_stamp, opening_of, reply_to};
@@ -18,36 +18,9 @@ use crate::source::rw_journal::{Book, Run, TakeFault};
 use crate::source::rw_law::{NoMemory, Reversible};
 use crate::source::rw_world::{ChanCall, ChanReply, OpenFault, RowCall, Spec, World, documented, open, specified};
 use crate::shim::alloc::Global;
-//~ use thiserror::Error;
 
 /// The number for a name whose line made no handle. No handle ever has it.
 pub(crate) const NEVER_MADE: u32 = u32::MAX;
-
-/// Why a script isn't run. If several apply, the first in this order is reported.
-#[derive(Clone, Copy, Debug, PartialEq, Eq/*~, Error~*/)]
-pub enum RunFault {
-    /// An allocation failed.
-//~     #[error("no memory")]
-    NoMemory,
-    /// Not all threads could be started, and no call was made. Only `run_threads` returns this.
-//~     #[error("no thread")]
-    NoThread,
-    /// A call of a desk failed, though no allocation did, or the desk's journals and receipts aren't a run of the script. Only
-    /// `run_threads` returns this.
-//~     #[error("strayed")]
-    Strayed,
-}
-
-impl From<NoMemory> for RunFault {
-//~     ghost use Rattle.std.specs.Prelude.{◌≡◌};
-//~     ghost use Rattle.rw_script.specs.declared.running.RunFault.TheVariants as run;
-
-//~     ghost from_gives = { λ memory fault. fault ≡ run.NoMemory };
-
-    fn from(_: NoMemory) -> RunFault {
-        RunFault::NoMemory
-    }
-}
 
 /// Returns the step's call, with the handle that its name stands for.
 pub(crate) fn filled(step: &ScriptStep, made: &[u32]) -> ChanCall<u64>
@@ -182,43 +155,29 @@ pub struct Played {
 
 /// Runs a script on a book: its calls in the order of its lines, with the stamps 1, 2, 3, .. . It stops at the first call that
 /// would wait, and returns the number of that line.
-pub fn play(alloc: Global, script: &Script) -> Result<Played, RunFault>
+pub fn play(alloc: Global, script: &Script) -> Result<Played, NoMemory>
 //~     ensures specs { IfOk result (λ played. played.specs.items ≡ script.now.specs) }
 //~     ensures opens { IfOk result (λ played. refusal played.specs.items ≡ None) }
 //~     ensures opened { IfOk result (λ played. opening_of of_world played.book ≡ opening_row played.specs.items) }
 //~     ensures entries { IfOk result (λ played. played.book.entries ≡ journal_of of_world (opening_row script.now.specs) 0 (run_of script.now).calls) }
 //~     ensures waits { IfOk result (λ played. played.waits ≡ (run_of script.now).waits) }
-//~     ensures fault { IfErr result (λ fault. fault ≡ RunFault.NoMemory) }
 {
-    let Ok(specs) = script.specs()./*~to_vec~*//*+*/try_to_vec/*+*/(alloc) else {
-        return Err(RunFault::NoMemory);
-    };
+    let specs = script.specs()./*~to_vec~*//*+*/try_to_vec/*+*/(alloc)?;
     match run_world(alloc, script) {
         Ok((book, waits)) => Ok(Played { specs, book, waits }),
         Err(NoMemory) => {
             drop(specs);
-            Err(RunFault::NoMemory)
+            Err(NoMemory)
         }
     }
 }
 
 /// Like `play`, but returns a run instead of a book.
-pub fn run_one(alloc: Global, script: &Script) -> Result<(Run<u64>, Option<u64>), RunFault>
+pub fn run_one(alloc: Global, script: &Script) -> Result<(Run<u64>, Option<u64>), NoMemory>
 //~     ensures specs { IfOk result (λ ran. ran.0.specs ≡ script.now.specs) }
 //~     ensures entries { IfOk result (λ ran. ran.0.entries ≡ journal_of of_world (opening_row script.now.specs) 0 (run_of script.now).calls) }
 //~     ensures waits { IfOk result (λ ran. ran.1 ≡ (run_of script.now).waits) }
-//~     ensures fault { IfErr result (λ fault. fault ≡ RunFault.NoMemory) }
 {
     let Played { specs, book, waits } = play(alloc, script)?;
     Ok((Run::of_book(specs, book), waits))
 }
-impl core::fmt::Display for RunFault { //+
-    fn fmt(&self, f: &mut core::fmt::Formatter<'_>) -> core::fmt::Result { //+
-        match self { //+
-            RunFault::NoMemory => write!(f, "no memory"), //+
-            RunFault::NoThread => write!(f, "no thread"), //+
-            RunFault::Strayed => write!(f, "strayed"), //+
-        } //+
-    } //+
-} //+
-impl core::error::Error for RunFault {} //+

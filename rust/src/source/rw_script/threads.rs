@@ -8,18 +8,44 @@ use crate::shim::Vec; //+
 
 use crate::source::rw_script::following::follow_all;
 use crate::source::rw_script::gate::Gate;
-use crate::source::rw_script::running::{NEVER_MADE, RunFault, filled, made_by, push_handle};
+use crate::source::rw_script::running::{NEVER_MADE, filled, made_by, push_handle};
 use crate::source::rw_script::script::Script;
 use crate::source::rw_script::start_latch::StartLatch;
 use crate::source::rw_script::steps::ScriptStep;
 use crate::source::rw_desk::{CloseFault, Desk, DeskFault, Pass};
 use crate::source::rw_journal::Run;
-use crate::source::rw_law::Entry;
+use crate::source::rw_law::{Entry, NoMemory};
 use crate::source::rw_world::{ChanCall, ChanReply, World};
 use crate::shim::alloc::Global;
 use crate::shim::sync::Wait;
 use crate::shim::thread;
 use crate::shim::thread::{JoinHandle, Threads};
+//~ use thiserror::Error;
+
+/// Why the threads of a script return no run. If several apply, the first in this order is reported.
+#[derive(Clone, Copy, Debug, PartialEq, Eq/*~, Error~*/)]
+pub enum RunFault {
+    /// An allocation failed.
+//~     #[error("no memory")]
+    NoMemory,
+    /// Not all threads could be started, and no call was made.
+//~     #[error("no thread")]
+    NoThread,
+    /// A call of a desk failed, though no allocation did, or the desk's journals and receipts aren't a run of the script.
+//~     #[error("strayed")]
+    Strayed,
+}
+
+impl From<NoMemory> for RunFault {
+//~     ghost use Rattle.std.specs.Prelude.{◌≡◌};
+//~     ghost use Rattle.rw_script.specs.declared.threads.RunFault.TheVariants as run;
+
+//~     ghost from_gives = { λ memory fault. fault ≡ run.NoMemory };
+
+    fn from(_: NoMemory) -> RunFault {
+        RunFault::NoMemory
+    }
+}
 
 /// What an actor's calls are made on. Threads share it as a type parameter, so that their proof needn't look into a desk.
 trait Calls {
@@ -276,3 +302,13 @@ pub fn run_threads<G: Gate + Sync, R: Threads + Wait + Sync>(
         }
     }
 }
+impl core::fmt::Display for RunFault { //+
+    fn fmt(&self, f: &mut core::fmt::Formatter<'_>) -> core::fmt::Result { //+
+        match self { //+
+            RunFault::NoMemory => write!(f, "no memory"), //+
+            RunFault::NoThread => write!(f, "no thread"), //+
+            RunFault::Strayed => write!(f, "strayed"), //+
+        } //+
+    } //+
+} //+
+impl core::error::Error for RunFault {} //+

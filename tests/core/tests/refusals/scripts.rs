@@ -3,9 +3,10 @@
 use crate::met::{TRIES, refused, say};
 use proved::Global;
 use proved::rw_journal::Run;
+use proved::rw_law::NoMemory;
 use proved::rw_script::{
-    MOST_STEPS, Played, RunFault, Script, ScriptFault, ScriptFaultKind, ScriptReader,
-    play as play_script, run_one,
+    MOST_STEPS, Played, Script, ScriptFault, ScriptFaultKind, ScriptReader, play as play_script,
+    run_one,
 };
 
 /// A script with names, whose last call would wait.
@@ -97,43 +98,43 @@ fn finished(reader: ScriptReader) -> Result<Script, ScriptFault> {
 type Entries = (u64, Option<u64>);
 
 /// Plays a script on a book.
-fn play_once(script: &Script) -> Result<Entries, RunFault> {
+fn play_once(script: &Script) -> Result<Entries, NoMemory> {
     let Played { specs, book, waits } = play_script(Global, script)?;
     Ok((Run::of_book(specs, book).len(), waits))
 }
 
 /// The same, with retries.
-fn played(script: &Script) -> Result<Entries, RunFault> {
+fn played(script: &Script) -> Result<Entries, NoMemory> {
     let steps = script.steps().len();
     for _ in 0..TRIES {
         match play_once(script) {
-            Err(RunFault::NoMemory) => refused(script.steps().len() == steps),
+            Err(NoMemory) => refused(script.steps().len() == steps),
             answer => return answer,
         }
     }
-    Err(RunFault::NoMemory)
+    Err(NoMemory)
 }
 
 /// Runs a script in one thread.
-fn run_once(script: &Script) -> Result<Entries, RunFault> {
+fn run_once(script: &Script) -> Result<Entries, NoMemory> {
     let (run, waits) = run_one(Global, script)?;
     Ok((run.len(), waits))
 }
 
 /// The same, with retries.
-fn run_script(script: &Script) -> Result<Entries, RunFault> {
+fn run_script(script: &Script) -> Result<Entries, NoMemory> {
     let steps = script.steps().len();
     for _ in 0..TRIES {
         match run_once(script) {
-            Err(RunFault::NoMemory) => refused(script.steps().len() == steps),
+            Err(NoMemory) => refused(script.steps().len() == steps),
             answer => return answer,
         }
     }
-    Err(RunFault::NoMemory)
+    Err(NoMemory)
 }
 
 /// Says how many entries a script has, and which line would wait, or why it isn't played.
-fn say(name: &str, entries: Result<Entries, RunFault>) {
+fn say(name: &str, entries: Result<Entries, NoMemory>) {
     match entries {
         Ok(entries) => say!("  {name}: {entries:?}"),
         Err(fault) => say!("  {fault:?}"),
