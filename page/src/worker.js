@@ -36,8 +36,6 @@ const requests = {
   found() {
     const { closings, totals, ...others } = foundIn(engine, channels.length);
     Object.assign(found, { closings, totals });
-    // The findings had the memory of the debugger, which would open again only at the next jump.
-    statesIn(engine, [0]);
     return { closings, totals, ...others };
   },
   // It is asked for once the findings are there.

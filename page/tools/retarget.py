@@ -13,8 +13,7 @@ import tempfile
 import clang
 
 EXPORTS = (
-    "ttd_debug", "ttd_session", "ttd_salvage", "ttd_losses", "ttd_found", "ttd_levels", "ttd_open", "ttd_close", "ttd_ask", "ttd_states", "ttd_held_losses",
-    "ttd_held_found", "ttd_held_levels",
+    "ttd_debug", "ttd_session", "ttd_salvage", "ttd_open", "ttd_close", "ttd_ask", "ttd_states", "ttd_held_losses", "ttd_held_found", "ttd_held_levels",
 )
 X86_ALONE = re.compile(r'@llvm\.x86\.|\basm (sideeffect )?"')
 X86_ATTRIBUTES = re.compile(r' "(probe-stack|stack-probe-size|target-cpu|target-features)"="[^"]*"')

@@ -22,4 +22,4 @@ mod walk;
 pub use debugging::{debug, debug_again};
 pub use session_lines::{fault_line, waiting_line};
 pub use sessions::{MOST_BYTES, Outcome, SessionFault, session};
-pub use walk::Walk;
+pub use walk::{PausedWalk, Walk};

@@ -12,9 +12,9 @@ use Rattle.rw_world.specs.Machines.{ChanShown, of_world}
 use Rattle.rw_world.specs.Records.{documented_at, IsDocumented}
 use Rattle.rw_world.specs.Specified.{WorldEntry}
 use Rattle.rw_navigator.specs.declared.moves.Move.{Move}
-use Rattle.rw_navigator.specs.Counted.{count_after}
+use Rattle.rw_navigator.specs.Counted.{Counted, count_after}
 use Rattle.rw_navigator.specs.Moves.{landing, distance, landing_all, distance_all}
-use Rattle.rw_navigator.specs.Navigator.{Navigator, start_of}
+use Rattle.rw_navigator.specs.Navigator.{IsNavigator, Navigator, start_of}
 use Rattle.rw_navigator.specs.Places.{last_place, shown_at}
 
 -- the run, the place, what the machine shows, and how many calls it has had
@@ -78,3 +78,12 @@ module _ {V : Type 0} where
   pub record IsDebugger (specs : List (Spec V)) (visit : Visit V) : Type 0 where
     pub shows : (n : ℕ) → after of_world (start_of of_world visit) visit.entries n ≡ documented_at specs visit.entries n
     pub documented : IsDocumented specs visit.entries
+
+  -- a visit to these entries by this machine, at a place
+  abbrev pub visit_of : List (WorldEntry V) → Counted (List (Chan V)) → ℕ → Visit V
+  visit_of es machine place = record { machine = machine; entries = es; place = place }
+
+  -- the machine is at this place of a run that others have
+  pub record IsVisitor (run : Run V) (machine : Counted (List (Chan V))) (place : ℕ) : Type 0 where
+    pub visits : IsNavigator of_world (visit_of run.entries machine place)
+    pub debugs : IsDebugger run.specs (visit_of run.entries machine place)

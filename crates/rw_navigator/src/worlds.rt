@@ -1,7 +1,9 @@
-//! Conditions on the runs of worlds, and the debugger that walks over such a run.
+//! Conditions on the runs of worlds, the debugger that walks over such a run, and a visitor of a run that others have.
 
 mod condition;
 mod debugger;
+mod visitor;
 
 pub use condition::{Cond, closed_at, lag_at, seen_at};
 pub use debugger::Debugger;
+pub use visitor::Visitor;

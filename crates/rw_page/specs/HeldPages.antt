@@ -8,7 +8,6 @@ use Rattle.rw_law.specs.Numbers.{numbers}
 use Rattle.rw_navigator.specs.Places.{last_place, shown_at}
 use Rattle.rw_text.specs.declared.faults.TextFault.{TextFault}
 use Rattle.rw_text.specs.Reading.{reading_of}
-use Rattle.rw_page.specs.LossLines.{IsLossReport}
 use Rattle.rw_page.specs.Pages.{Holds, Lacks}
 use Rattle.rw_page.specs.PeakLines.{AreChannelTexts, stretches_of}
 
@@ -38,10 +37,6 @@ HoldsOne Is buffer count = (text : List ℕ) × Is text × Holds buffer count te
 
 abbrev pub LacksOne : (List ℕ → Type 0) → (buffer : List ℕ) → (count : ℕ) → Type 0
 LacksOne Is buffer count = (text : List ℕ) × Is text × Lacks buffer count text
-
--- the text is that of a run's losses
-unfoldable pub IsLossText : Run ℕ → List ℕ → Type 0
-IsLossText run text = IsLossReport (Ok run) text
 
 -- the text is that of the peaks of these channels in so many stretches
 abbrev pub AreLevels : Run ℕ → (from each count : ℕ) → (channels : List ℕ) → List ℕ → Type 0

@@ -17,10 +17,6 @@ page_report (Err fault) commands = text_fault_line fault
 abbrev pub page_of : List ℕ → List ℕ → List ℕ
 page_of journal commands = page_report (reading_of numbers journal) commands
 
--- the text is the line of a journal text's first fault
-abbrev pub IsFaultPage : List ℕ → List ℕ → Type 0
-IsFaultPage journal text = (fault : TextFault) × (reading_of numbers journal ≡ Err fault) × (text ≡ text_fault_line fault)
-
 -- this text is at the start of a buffer
 abbrev pub Holds : List ℕ → ℕ → List ℕ → Type 0
 Holds buffer count text = (count ≤ length buffer) × (take count buffer ≡ text)

@@ -1,17 +1,12 @@
 -- The text of the peaks of a run.
-use Rattle.std.specs.Prelude.{◌≡◌, ℕ, nat_lt, if◌then◌else◌, List, [], ◌∷◌, ◌++◌, length, slice_index_or, Result, Ok, Err, codes}
+use Rattle.std.specs.Prelude.{◌≡◌, ℕ, nat_lt, if◌then◌else◌, List, [], ◌∷◌, ◌++◌, length, slice_index_or, codes}
 use Rattle.std.specs.List.{flat_map, list_any, range_with_len}
 use Rattle.rw_journal.specs.Run.{Run}
-use Rattle.rw_law.specs.Numbers.{numbers}
 use Rattle.rw_blocks.specs.Labels.{with_number}
 use Rattle.rw_findings.specs.Peaks.{ArePeaks}
 use Rattle.rw_findings.specs.declared.peaks.measure.Measure.{Measure}
 use Rattle.rw_findings.specs.declared.peaks.measure.Measure.TheVariants.{Lag, Unread, Unseen}
 use Rattle.rw_findings.specs.declared.peaks.measure.Stretches.{Stretches}
-use Rattle.rw_text.specs.declared.faults.TextFault.{TextFault}
-use Rattle.rw_text.specs.Faults.{text_fault_line}
-use Rattle.rw_text.specs.Reading.{reading_of}
-use Rattle.rw_page.specs.Pages.{Holds, Lacks}
 
 abbrev pub measure_word : Measure → List ℕ
 measure_word Lag = codes "lag "
@@ -59,22 +54,6 @@ AreChannelTexts run stretches [] text = text ≡ []
 AreChannelTexts run stretches (channel ∷ channels) text =
     (first : List ℕ) × (rest : List ℕ) × IsChannelText run stretches channel first × AreChannelTexts run stretches channels rest × (text ≡ first ++ rest)
 
--- the same, or the text is that of a journal text's first fault
-abbrev pub IsPeakReport : Result (Run ℕ) TextFault → Stretches → List ℕ → List ℕ → Type 0
-IsPeakReport (Ok run) stretches channels text = AreChannelTexts run stretches channels text
-IsPeakReport (Err fault) stretches channels text = text ≡ text_fault_line fault
-
--- the same of the run whose journal text the bytes are
-abbrev pub IsPeakPage : List ℕ → Stretches → List ℕ → List ℕ → Type 0
-IsPeakPage journal stretches channels text = IsPeakReport (reading_of numbers journal) stretches channels text
-
 -- this many places each, from this place on
 abbrev pub stretches_of : (from each count : ℕ) → Stretches
 stretches_of from each count = record { from = from; each = each; count = count }
-
--- the text is at the start of a buffer, or the buffer is too small for it
-abbrev pub HoldsPeaks : List ℕ → ℕ → List ℕ → Stretches → List ℕ → Type 0
-HoldsPeaks buffer count journal stretches channels = (text : List ℕ) × IsPeakPage journal stretches channels text × Holds buffer count text
-
-abbrev pub LacksPeaks : List ℕ → ℕ → List ℕ → Stretches → List ℕ → Type 0
-LacksPeaks buffer count journal stretches channels = (text : List ℕ) × IsPeakPage journal stretches channels text × Lacks buffer count text

@@ -1,12 +1,11 @@
 //! All that is found in a run as text.
 
 ghost use Rattle.std.specs.Prelude.{IfOk, OnOk};
-ghost use Rattle.rw_page.specs.FoundLines.{IsFoundPage, IsFoundText};
+ghost use Rattle.rw_page.specs.FoundLines.{IsFoundText};
 ghost use Rattle.rw_page.specs.Texts.{Appended};
 
 use crate::closing_lines::push_closings_of;
 use crate::life_lines::push_lives_of;
-use crate::pages::read_run;
 use crate::total_lines::push_totals_of;
 use crate::value_lines::push_values_of;
 use rw_journal::Run;
@@ -31,15 +30,4 @@ pub fn found_text(alloc: Global, run: &Run<u64>) -> Result<Vec<u8>, NoMemory>
     let mut text = Vec::new(alloc);
     push_found(alloc, &mut text, run)?;
     Ok(text)
-}
-
-/// Returns the lines of all that is found in a run, or its journal text's first fault.
-pub fn found_page(alloc: Global, journal: &[u8]) -> Result<Vec<u8>, NoMemory>
-    ensures { IfOk result (λ text. IsFoundPage journal.now text.items) }
-{
-    let run = match read_run(alloc, journal)? {
-        Ok(run) => run,
-        Err(line) => return Ok(line),
-    };
-    found_text(alloc, &run)
 }

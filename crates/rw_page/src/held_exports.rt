@@ -1,22 +1,18 @@
 //! The functions that a page calls for a run that is held between the calls.
 //!
-//! `ttd_open` reads a journal text and holds its run, and `ttd_close` drops it. In between the others write what `ttd_debug` and the
-//! exports of findings write for that text, without reading it again. The page passes the pointer that `ttd_open` has set, and
-//! nothing else: that is what the clauses require.
+//! `ttd_open` reads a journal text and holds its run, and `ttd_close` drops it. In between the others write what `ttd_debug` writes for
+//! that text, and what is found in the run, without reading it again. The page passes the pointer that `ttd_open` has set, and
+//! nothing else: that is what the clauses require. Where memory is refused, the run is still held.
 
 ghost use Rattle.std.specs.Prelude.{◌≡◌, ◌≤◌, ◌<◌, ◌↔◌, length, IfSome, IsSome, None};
 ghost use Rattle.rw_page.specs.FoundLines.{IsFoundText};
-ghost use Rattle.rw_page.specs.HeldPages.{AreLevels, HasFault, HoldsOne, HoldsRunOf, IsLossText, LacksOne, answers_of, state_lines};
+ghost use Rattle.rw_page.specs.HeldPages.{AreLevels, HasFault, HoldsOne, HoldsRunOf, LacksOne, answers_of, state_lines};
+ghost use Rattle.rw_page.specs.LossLines.{IsLossText};
 ghost use Rattle.rw_page.specs.Pages.{Fits, Holds, IsWithin, Lacks};
 
-use crate::MOST_STRETCHES;
-use crate::found_lines::found_text;
 use crate::held::Held;
-use crate::held_pages::{answers_page, states_page};
-use crate::loss_lines::losses_text;
 use crate::opened::Opened;
 use crate::pages::{NO_ANSWER, hand_over};
-use crate::peak_lines::peaks_text;
 use rw_console::MOST_BYTES;
 use rw_findings::Stretches;
 use rw_law::NoMemory;
@@ -24,6 +20,9 @@ use std::alloc::Global;
 
 /// A journal text has a fault.
 const FAULT: u8 = 1;
+
+/// The greatest number of stretches that `ttd_held_levels` accepts.
+const MOST_STRETCHES: u64 = 65_536;
 
 /// Reads a journal text, and holds its run.
 ///
@@ -84,7 +83,7 @@ pub extern "C" fn ttd_ask(
     ensures same { held.new.run ≡ held.old.run }
 {
     let mut opened = held.take(alloc);
-    let answered = hand_over(answers_page(alloc, &mut opened, commands), out, count);
+    let answered = hand_over(opened.answers(alloc, commands), out, count);
     held.put(opened);
     answered
 }
@@ -109,12 +108,12 @@ pub extern "C" fn ttd_states(
     ensures same { held.new.run ≡ held.old.run }
 {
     let mut opened = held.take(alloc);
-    let answered = hand_over(states_page(alloc, &mut opened, places), out, count);
+    let answered = hand_over(opened.states(alloc, places), out, count);
     held.put(opened);
     answered
 }
 
-/// Writes a line for each loss of the run that is held, as `ttd_losses` does.
+/// Writes a line for each loss of the run that is held, to the start of `out`. Its return values are those of `ttd_salvage`.
 #[unsafe(no_mangle)]
 pub extern "C" fn ttd_held_losses(
     alloc: Global,
@@ -131,13 +130,15 @@ pub extern "C" fn ttd_held_losses(
     ensures none { result ≡ 2 → count.new ≡ count.old }
     ensures same { held.new.run ≡ held.old.run }
 {
-    let opened = held.take(alloc);
-    let answered = hand_over(losses_text(alloc, opened.run()), out, count);
+    let mut opened = held.take(alloc);
+    let answered = hand_over(opened.losses(alloc), out, count);
     held.put(opened);
     answered
 }
 
-/// Writes all else that is found in the run that is held, as `ttd_found` does.
+/// Writes all else that is found in the run that is held, to the start of `out`: a line for each closing and for each receiver that
+/// was there then, for each receiver's totals, for each handle, and for each value of each channel, in this order. Its return values
+/// are those of `ttd_salvage`.
 #[unsafe(no_mangle)]
 pub extern "C" fn ttd_held_found(
     alloc: Global,
@@ -155,13 +156,16 @@ pub extern "C" fn ttd_held_found(
     ensures same { held.new.run ≡ held.old.run }
 {
     let mut opened = held.take(alloc);
-    opened.rest();
-    let answered = hand_over(found_text(alloc, opened.run()), out, count);
+    let answered = hand_over(opened.found(alloc), out, count);
     held.put(opened);
     answered
 }
 
-/// Writes the peaks of the receivers of some channels of the run that is held, as `ttd_levels` does.
+/// Writes the peaks of the receivers of some channels of the run that is held, to the start of `out`: how much each lagged, how much
+/// it had to receive, or whether it had not seen a watch's value, at most in each stretch of places.
+///
+/// `channels` has a channel's number in each byte. There are `stretches` stretches of `each` places, from place `from` on. Its
+/// return values are those of `ttd_salvage`. For more than 65,536 stretches, it returns 2.
 #[unsafe(no_mangle)]
 pub extern "C" fn ttd_held_levels(
     alloc: Global,
@@ -191,8 +195,8 @@ pub extern "C" fn ttd_held_levels(
         each,
         count: stretches,
     };
-    let opened = held.take(alloc);
-    let answered = hand_over(peaks_text(alloc, opened.run(), cut, channels), out, count);
+    let mut opened = held.take(alloc);
+    let answered = hand_over(opened.peaks(alloc, cut, channels), out, count);
     held.put(opened);
     answered
 }

@@ -2,12 +2,11 @@
 //!
 //! The main contract: an export returns 0 if its output fits into the buffer, and has then written it there, and 1 if it doesn't
 //! fit. At 2 there is no output, and nothing has changed. The output of `ttd_debug` is what commands write over the run of a journal
-//! text, that of `ttd_session` is a session's report, and that of `ttd_salvage` is what is left of a journal text. `ttd_losses` and
-//! `ttd_levels` write a line for each loss and for each receiver's peaks. `ttd_found` writes all else that is found by one reading: a
-//! line for each closing, for each receiver's totals, for each handle and for each value. For a journal text with a fault, the output
-//! is the line of its first fault.
+//! text, that of `ttd_session` is a session's report, and that of `ttd_salvage` is what is left of a journal text. For a journal text
+//! with a fault, the output is the line of its first fault. The exports of `held_exports` are asked of a run that is read once: what
+//! commands write over it, its states, and lines of what is found in it.
 //!
-//! `ttd_levels` always returns 2 above its limit, and `ttd_debug` and `ttd_session` do unless the bytes within theirs decide the
+//! `ttd_held_levels` always returns 2 above its limit, and `ttd_debug` and `ttd_session` do unless the bytes within theirs decide the
 //! output. No clause says where else an export returns 2: the code does where an allocation is refused.
 //! Start reading at `specs/Pages.antt`. The tests of the page (`page/test`) run the exports in a browser.
 #![tactic(auto)]
@@ -29,19 +28,12 @@ mod value_lines;
 
 ghost use Rattle.std.specs.Prelude.{◌≡◌, ◌≤◌, ◌<◌, ◌↔◌, length};
 ghost use Rattle.rw_console.specs.SessionReport.{report};
-ghost use Rattle.rw_page.specs.FoundLines.{HoldsFound, IsFoundPage, LacksFound};
-ghost use Rattle.rw_page.specs.LossLines.{HoldsLosses, IsLossPage, LacksLosses};
-ghost use Rattle.rw_page.specs.Pages.{Fits, Holds, IsWithin, Lacks, page_of};
-ghost use Rattle.rw_page.specs.PeakLines.{HoldsPeaks, IsPeakPage, LacksPeaks, stretches_of};
+ghost use Rattle.rw_page.specs.Pages.{Holds, IsWithin, Lacks, page_of};
 ghost use Rattle.rw_page.specs.Salvages.{salvage_page};
 
-use crate::found_lines::found_page;
-use crate::loss_lines::losses_page;
-use crate::pages::{NO_ANSWER, debug_page, hand_over, session_page};
-use crate::peak_lines::peaks_page;
+use crate::pages::{debug_page, hand_over, session_page};
 use crate::salvages::salvage_page;
 use rw_console::MOST_BYTES;
-use rw_findings::Stretches;
 use std::alloc::Global;
 
 /// Reads a journal text and then commands, and writes their output to the start of `out`.
@@ -95,71 +87,4 @@ pub extern "C" fn ttd_salvage(alloc: Global, journal: &[u8], out: &mut [u8], cou
     ensures none { result ≡ 2 → count.new ≡ count.old }
 {
     hand_over(salvage_page(alloc, journal), out, count)
-}
-
-/// Reads a journal text, and writes a line for each loss of its run to the start of `out`. Its return values are those of
-/// `ttd_salvage`.
-#[unsafe(no_mangle)]
-pub extern "C" fn ttd_losses(alloc: Global, journal: &[u8], out: &mut [u8], count: &mut u64) -> u8
-    ensures known { result ≤ 2 }
-    ensures answer { result ≡ 0 → HoldsLosses out.new count.new journal.now }
-    ensures room { result ≡ 1 → LacksLosses out.new count.new journal.now }
-    ensures fits { result < 2 → Fits (IsLossPage journal.now) result out.old }
-    ensures kept { 0 < result → out.new ≡ out.old }
-    ensures none { result ≡ 2 → count.new ≡ count.old }
-{
-    hand_over(losses_page(alloc, journal), out, count)
-}
-
-/// Reads a journal text, and writes all else that is found in its run to the start of `out`: a line for each closing and for each
-/// receiver that was there then, for each receiver's totals, for each handle, and for each value of each channel, in this order.
-/// Its return values are those of `ttd_salvage`.
-#[unsafe(no_mangle)]
-pub extern "C" fn ttd_found(alloc: Global, journal: &[u8], out: &mut [u8], count: &mut u64) -> u8
-    ensures known { result ≤ 2 }
-    ensures answer { result ≡ 0 → HoldsFound out.new count.new journal.now }
-    ensures room { result ≡ 1 → LacksFound out.new count.new journal.now }
-    ensures fits { result < 2 → Fits (IsFoundPage journal.now) result out.old }
-    ensures kept { 0 < result → out.new ≡ out.old }
-    ensures none { result ≡ 2 → count.new ≡ count.old }
-{
-    hand_over(found_page(alloc, journal), out, count)
-}
-
-/// The greatest number of stretches that `ttd_levels` accepts.
-pub(crate) const MOST_STRETCHES: u64 = 65_536;
-
-/// Reads a journal text, and writes the peaks of the receivers of some channels to the start of `out`: how much each lagged, how
-/// much it had to receive, or whether it had not seen a watch's value, at most in each stretch of places.
-///
-/// `channels` has a channel's number in each byte. There are `stretches` stretches of `each` places, from place `from` on. Its
-/// return values are those of `ttd_salvage`. For more than 65,536 stretches, it returns 2.
-#[unsafe(no_mangle)]
-pub extern "C" fn ttd_levels(
-    alloc: Global,
-    journal: &[u8],
-    channels: &[u8],
-    from: u64,
-    each: u64,
-    stretches: u64,
-    out: &mut [u8],
-    count: &mut u64,
-) -> u8
-    ensures known { result ≤ 2 }
-    ensures answer { result ≡ 0 → HoldsPeaks out.new count.new journal.now (stretches_of from each stretches) channels.now }
-    ensures room { result ≡ 1 → LacksPeaks out.new count.new journal.now (stretches_of from each stretches) channels.now }
-    ensures fits { result < 2 → Fits (IsPeakPage journal.now (stretches_of from each stretches) channels.now) result out.old }
-    ensures kept { 0 < result → out.new ≡ out.old }
-    ensures none { result ≡ 2 → count.new ≡ count.old }
-    ensures limit { MOST_STRETCHES < stretches → result ≡ 2 }
-{
-    if MOST_STRETCHES < stretches {
-        return NO_ANSWER;
-    }
-    let cut = Stretches {
-        from,
-        each,
-        count: stretches,
-    };
-    hand_over(peaks_page(alloc, journal, cut, channels), out, count)
 }

@@ -2,11 +2,9 @@
 
 ghost use Rattle.std.specs.Prelude.{◌≡◌, ◌++◌, IfOk, OnOk};
 ghost use Rattle.std.specs.List.{flat_map};
-ghost use Rattle.rw_page.specs.HeldPages.{IsLossText};
-ghost use Rattle.rw_page.specs.LossLines.{IsLossPage, end_words, loss_line};
+ghost use Rattle.rw_page.specs.LossLines.{IsLossText, end_words, loss_line};
 
 use crate::lines::push_with_number;
-use crate::pages::read_run;
 use rw_findings::{Loss, LossEnd, losses_of};
 use rw_journal::Run;
 use rw_law::NoMemory;
@@ -47,7 +45,7 @@ fn push_losses(out: &mut Vec<u8>, losses: &[Loss]) -> Result<(), AllocError>
 }
 
 /// Returns a line for each loss of a run.
-#[tactic(auto, unfolding(crate::specs::HeldPages::IsLossText))]
+#[tactic(auto, unfolding(crate::specs::LossLines::IsLossText))]
 pub fn losses_text(alloc: Global, run: &Run<u64>) -> Result<Vec<u8>, NoMemory>
     ensures { IfOk result (λ text. IsLossText run.now text.items) }
 {
@@ -55,16 +53,4 @@ pub fn losses_text(alloc: Global, run: &Run<u64>) -> Result<Vec<u8>, NoMemory>
     let mut text = Vec::new(alloc);
     push_losses(&mut text, &losses)?;
     Ok(text)
-}
-
-/// Returns a line for each loss of a run, or its journal text's first fault.
-#[tactic(auto, unfolding(crate::specs::HeldPages::IsLossText))]
-pub fn losses_page(alloc: Global, journal: &[u8]) -> Result<Vec<u8>, NoMemory>
-    ensures { IfOk result (λ text. IsLossPage journal.now text.items) }
-{
-    let run = match read_run(alloc, journal)? {
-        Ok(run) => run,
-        Err(line) => return Ok(line),
-    };
-    losses_text(alloc, &run)
 }

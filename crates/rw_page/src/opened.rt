@@ -1,109 +1,142 @@
 //! A run that was read once, to be asked again and again.
 
-ghost use Rattle.std.specs.Prelude.{◌≡◌, ◌++◌, IfOk, IfSome, IfNone, OnOk};
+ghost use Rattle.std.specs.Prelude.{◌≡◌, IfOk, IfSome, IfNone, Ok, OnOk};
+ghost use Rattle.rw_journal.specs.Run.{IsRun};
 ghost use Rattle.rw_law.specs.Numbers.{numbers};
-ghost use Rattle.std.specs.Prelude.{Ok};
 ghost use Rattle.rw_text.specs.Reading.{reading_of};
-ghost use Rattle.rw_page.specs.HeldPages.{HasFault, state_line};
+ghost use Rattle.rw_page.specs.FoundLines.{IsFoundText};
+ghost use Rattle.rw_page.specs.HeldPages.{HasFault, answers_of, state_lines};
+ghost use Rattle.rw_page.specs.LossLines.{IsLossText};
+ghost use Rattle.rw_page.specs.Opened.{IsWalked, run_walked};
+ghost use Rattle.rw_page.specs.Pages.{IsWithin};
+ghost use Rattle.rw_page.specs.PeakLines.{AreChannelTexts};
 
-use rw_console::Walk;
+use crate::found_lines::found_text;
+use crate::held_pages::{answers_page, states_page};
+use crate::loss_lines::losses_text;
+use crate::peak_lines::peaks_text;
+use rw_console::{MOST_BYTES, PausedWalk, SessionFault, Walk};
+use rw_findings::Stretches;
 use rw_journal::Run;
 use rw_law::NoMemory;
-use rw_navigator::Move;
 use rw_text::TextFault;
-use std::alloc::{AllocError, Global};
+use std::alloc::Global;
 use std::marker::Model;
 
-/// A run, and a walk that stays open, so that the way to the next state is short and no search is indexed twice. There is none while
-/// others need its memory, which is that of another run.
+/// A run with a walk over it, which has the only list of its entries. The walk stays open, so that the way to the next state is short and
+/// no search is indexed twice. Where the run is read for what is found in it, the walk pauses.
 #[derive(Drop)]
 pub struct Opened {
-    run: Run<u64>,
+    // It is always there between the calls.
     walk: Option<Walk>,
 }
 
 impl Model for Opened {
-    ghost use Rattle.std.specs.Prelude.{◌≡◌, ℕ, IfSome};
+    ghost use Rattle.std.specs.Prelude.{ℕ};
     ghost use Rattle.rw_journal.specs.Run.{Run as Seen};
+    ghost use Rattle.rw_page.specs.Opened.{IsWalked, run_walked};
 
     ghost Value = { Seen ℕ };
 
-    ghost view = { λ o. o.run };
+    ghost view = { λ o. run_walked o.walk };
 
-    ghost invariant = { λ o. IfSome o.walk (λ walk. walk.run ≡ o.run) };
+    ghost invariant = { λ o. IsWalked o.walk };
 }
 
 impl Opened {
-    /// Opens the run of a journal text, or returns `None` if the text has a fault.
+    /// Opens the run of a journal text, or returns `None` if the text has a fault. All memory that its walk will need is allocated here.
     pub fn of_text(alloc: Global, journal: &[u8]) -> Result<Option<Opened>, NoMemory>
         ensures run { IfOk result (λ read. IfSome read (λ opened. reading_of numbers journal.now ≡ Ok opened)) }
         ensures fault { IfOk result (λ read. IfNone read (HasFault journal.now)) }
     {
-        match rw_text::read::<u64>(alloc, journal) {
-            Ok(run) => Ok(Some(Opened { run, walk: None })),
-            Err(TextFault::NoMemory) => Err(NoMemory),
-            Err(_) => Ok(None),
+        let run = match rw_text::read::<u64>(alloc, journal) {
+            Ok(run) => run,
+            Err(TextFault::NoMemory) => return Err(NoMemory),
+            Err(_) => return Ok(None),
+        };
+        // The proof needs this call: it ensures that specs and entries are those of a run.
+        let _specs = run.specs();
+        match Walk::of_run(alloc, run) {
+            Ok(walk) => Ok(Some(Opened { walk: Some(walk) })),
+            Err(_run) => Err(NoMemory),
         }
     }
 
-    /// Returns the run.
-    pub fn run(&self) -> &Run<u64>
-        ensures { result.now ≡ self.now }
-    {
-        &self.run
-    }
-
-    /// Drops the walk, and leaves its memory to others.
-    pub fn rest(&mut self)
-        ensures { self.new ≡ self.old }
-    {
-        drop(self.walk.take());
-    }
-
-    /// Takes the walk out, or opens one.
-    pub fn take_walk(&mut self, alloc: Global) -> Result<Walk, NoMemory>
-        ensures walk { IfOk result (λ walk. walk.run ≡ self.old) }
+    /// Returns what commands write over the run, as `answers_page` does.
+    pub fn answers(&mut self, alloc: Global, commands: &[u8]) -> Result<Vec<u8>, SessionFault>
+        ensures text { IfOk result (λ text. text.items ≡ answers_of self.old commands.now) }
+        ensures limit { OnOk result (IsWithin MOST_BYTES (answers_of self.old) commands.now) }
         ensures run { self.new ≡ self.old }
     {
-        match self.walk.take() {
-            Some(walk) => Ok(walk),
-            None => Walk::open(alloc, &self.run),
-        }
-    }
-
-    /// Puts the walk back.
-    pub fn put_walk(&mut self, walk: Walk)
-        requires { walk.run ≡ self.old }
-        ensures { self.new ≡ self.old }
-    {
+        let Some(mut walk) = self.walk.take() else {
+            unreachable!()
+        };
+        let answered = answers_page(alloc, &mut walk, commands);
         self.walk = Some(walk);
+        answered
     }
 
-    /// Appends the line with the state of a place, if there is such a place.
-    pub fn push_state(
+    /// Returns the lines with the states of these places.
+    pub fn states(&mut self, alloc: Global, places: &[u64]) -> Result<Vec<u8>, NoMemory>
+        ensures text { IfOk result (λ text. text.items ≡ state_lines self.old places.now) }
+        ensures run { self.new ≡ self.old }
+    {
+        let Some(mut walk) = self.walk.take() else {
+            unreachable!()
+        };
+        let states = states_page(alloc, &mut walk, places);
+        self.walk = Some(walk);
+        states
+    }
+
+    /// Returns a line for each loss of the run.
+    pub fn losses(&mut self, alloc: Global) -> Result<Vec<u8>, NoMemory>
+        ensures text { IfOk result (λ text. IsLossText self.old text.items) }
+        ensures run { self.new ≡ self.old }
+    {
+        let (run, paused) = run_of(&mut self.walk);
+        let losses = losses_text(alloc, &run);
+        self.walk = Some(paused.resume(run));
+        losses
+    }
+
+    /// Returns the lines of all else that is found in the run.
+    pub fn found(&mut self, alloc: Global) -> Result<Vec<u8>, NoMemory>
+        ensures text { IfOk result (λ text. IsFoundText self.old text.items) }
+        ensures run { self.new ≡ self.old }
+    {
+        let (run, paused) = run_of(&mut self.walk);
+        let found = found_text(alloc, &run);
+        self.walk = Some(paused.resume(run));
+        found
+    }
+
+    /// Returns the peaks of the receivers of these channels.
+    pub fn peaks(
         &mut self,
         alloc: Global,
-        out: &mut Vec<u8>,
-        place: u64,
-    ) -> Result<(), NoMemory>
-        ensures line { OnOk result (out.new.items ≡ out.old.items ++ state_line self.old place) }
+        stretches: Stretches,
+        channels: &[u8],
+    ) -> Result<Vec<u8>, NoMemory>
+        ensures text { IfOk result (λ text. AreChannelTexts self.old stretches channels.now text.items) }
         ensures run { self.new ≡ self.old }
     {
-        let mut walk = self.take_walk(alloc)?;
-        let pushed = push_state_of(out, &mut walk, place);
-        self.put_walk(walk);
-        pushed?;
-        Ok(())
+        let (run, paused) = run_of(&mut self.walk);
+        let peaks = peaks_text(alloc, &run, stretches, channels);
+        self.walk = Some(paused.resume(run));
+        peaks
     }
 }
 
-/// Goes to a place and appends the line with its state, if there is such a place.
-fn push_state_of(out: &mut Vec<u8>, walk: &mut Walk, place: u64) -> Result<(), AllocError>
-    ensures line { OnOk result (out.new.items ≡ out.old.items ++ state_line walk.old.run place) }
-    ensures run { walk.new.run ≡ walk.old.run }
+/// Takes the walk out, and parts it into its run and what stays of it.
+fn run_of(walk: &mut Option<Walk>) -> (Run<u64>, PausedWalk)
+    requires { IsWalked walk.old }
+    ensures run { result.0 ≡ run_walked walk.old }
+    ensures paused { result.1.run ≡ run_walked walk.old }
+    ensures whole { IsRun result.0.specs result.0.entries }
 {
-    if walk.step(Move::Goto(place)).is_err() {
-        return Ok(());
+    match walk.take() {
+        Some(walk) => walk.pause(),
+        None => unreachable!(),
     }
-    walk.push_json(out)
 }

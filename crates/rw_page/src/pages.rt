@@ -1,14 +1,11 @@
 //! The debugger over bytes in memory.
 
-ghost use Rattle.std.specs.Prelude.{◌≡◌, ◌≤◌, ◌<◌, ◌↔◌, length, IfErr, IfOk, IsErrOf, IsOk, Ok, OnOk};
+ghost use Rattle.std.specs.Prelude.{◌≡◌, ◌≤◌, ◌<◌, ◌↔◌, length, IfOk, IsErrOf, IsOk, OnOk};
 ghost use Rattle.rw_console.specs.SessionReport.{report};
-ghost use Rattle.rw_law.specs.Numbers.{numbers};
-ghost use Rattle.rw_page.specs.Pages.{Holds, IsFaultPage, IsWithin, Lacks, page_of};
+ghost use Rattle.rw_page.specs.Pages.{Holds, IsWithin, Lacks, page_of};
 ghost use Rattle.rw_text.specs.Faults.{text_fault_line};
-ghost use Rattle.rw_text.specs.Reading.{reading_of};
 
 use rw_console::{MOST_BYTES, SessionFault, debug, session};
-use rw_journal::Run;
 use rw_law::NoMemory;
 use rw_text::TextFault;
 use std::alloc::Global;
@@ -19,18 +16,6 @@ pub fn fault_page(alloc: Global, fault: TextFault) -> Result<Vec<u8>, NoMemory>
 {
     let line = fault.line(alloc)?;
     Ok(line.into_bytes())
-}
-
-/// Returns the run of a journal text, or else the line of its first fault.
-pub fn read_run(alloc: Global, journal: &[u8]) -> Result<Result<Run<u64>, Vec<u8>>, NoMemory>
-    ensures run { IfOk result (λ read. IfOk read (λ run. reading_of numbers journal.now ≡ Ok run)) }
-    ensures fault { IfOk result (λ read. IfErr read (λ line. IsFaultPage journal.now line.items)) }
-{
-    match rw_text::read::<u64>(alloc, journal) {
-        Ok(run) => Ok(Ok(run)),
-        Err(TextFault::NoMemory) => Err(NoMemory),
-        Err(fault) => Ok(Err(fault_page(alloc, fault)?)),
-    }
 }
 
 /// Returns what the commands write over the run of a journal text, or that text's first fault. Only if more than `MOST_BYTES` bytes

@@ -2,12 +2,11 @@
 
 ghost use Rattle.std.specs.Prelude.{◌≡◌, ◌++◌, IfOk, OnOk, nat_lt, length, slice_index_or};
 ghost use Rattle.std.specs.List.{list_any};
-ghost use Rattle.rw_page.specs.PeakLines.{AreChannelTexts, IsChannelText, IsMeasureText, IsPeakPage};
+ghost use Rattle.rw_page.specs.PeakLines.{AreChannelTexts, IsChannelText, IsMeasureText};
 ghost use Rattle.rw_page.specs.PeakLines.{measure_word, peak_numbers, row_line, shown_row, shown_rows};
 ghost use Rattle.rw_page.specs.Texts.{Appended};
 
 use crate::lines::push_with_number;
-use crate::pages::read_run;
 use rw_findings::{Measure, Peaks, Stretches, peaks_of};
 use rw_journal::Run;
 use rw_law::NoMemory;
@@ -169,20 +168,4 @@ pub fn peaks_text(
     let mut text = Vec::new(alloc);
     push_channels(alloc, &mut text, run, stretches, channels)?;
     Ok(text)
-}
-
-/// Returns the peaks of the receivers of these channels, or the journal text's first fault.
-pub fn peaks_page(
-    alloc: Global,
-    journal: &[u8],
-    stretches: Stretches,
-    channels: &[u8],
-) -> Result<Vec<u8>, NoMemory>
-    ensures { IfOk result (λ text. IsPeakPage journal.now stretches channels.now text.items) }
-{
-    let run = match read_run(alloc, journal)? {
-        Ok(run) => run,
-        Err(line) => return Ok(line),
-    };
-    peaks_text(alloc, &run, stretches, channels)
 }

@@ -12,26 +12,26 @@ use super::closing::{Closing, Closings, LateReader};
 use rw_broadcast::{BCall, BReply};
 use rw_journal::Run;
 use rw_law::{Entry, NoMemory, Reversible};
-use rw_navigator::{Debugger, Move, closed_at};
+use rw_navigator::{Visitor, closed_at};
 use rw_watch::{WCall, WReply};
 use rw_world::{ChanCall, ChanReply, Spec, World, documented, machines};
 use std::alloc::Global;
 
 /// Finds the closings of a run, by channel, and the receivers that were there then, by channel, then by receiver.
 ///
-/// A debugger goes over the run once, with a copy of it, and is asked at each entry whether the entry's channel has a sender.
+/// A world goes over the run once, and is asked at each entry whether the entry's channel has a sender.
 pub fn closings_of<V: Copy>(alloc: Global, run: &Run<V>) -> Result<Closings, NoMemory>
     ensures { IfOk result (λ closings. AreClosings run.now closings.channels.items closings.readers.items) }
 {
     machines::<V>();
     documented::<V>();
     let mut closed = all_open(alloc, run.specs())?;
-    let mut debugger = Debugger::open(alloc, run)?;
+    let mut visitor = Visitor::open(alloc, run)?;
     let mut place = 0;
     for entry in run.entries() {
         place += 1;
-        let _moved = debugger.step(Move::Goto(place));
-        follow_entry(alloc, &mut closed, entry, debugger.state(), place)?;
+        visitor.advance(run);
+        follow_entry(alloc, &mut closed, entry, visitor.state(), place)?;
     }
     listed(alloc, &closed)
 }

@@ -2,7 +2,8 @@
 // From crates/rw_console/src/walk.rt, with its contracts as comments. //+
 use crate::shim::Vec; //+
 
-//~ ghost use Rattle.std.specs.Prelude.{◌≡◌, ◌++◌, ◌≢◌, ◌≤◌, ℕ, false, IfOk, IfSome, IsSome, IsTrue, OnOk, unwrap_or};
+//~ ghost use Rattle.std.specs.Prelude.{◌≡◌, ◌++◌, ◌≢◌, ◌≤◌, ℕ, false, IfErr, IfOk, IfSome, IsSome, IsTrue, OnOk, unwrap_or};
+//~ ghost use Rattle.rw_journal.specs.Run.{IsRun};
 //~ ghost use Rattle.rw_console.specs.Hits.{hit_above, hit_below};
 //~ ghost use Rattle.rw_console.specs.Report.{output_of, place_of};
 //~ ghost use Rattle.rw_console.specs.SessionReport.{recording_of};
@@ -19,7 +20,7 @@ use crate::source::rw_console::text::{push_hit, push_place, push_refusal};
 use crate::source::rw_blocks::{push_json, push_world};
 use crate::source::rw_journal::Run;
 use crate::source::rw_law::{Entry, NoMemory, Reversible};
-use crate::source::rw_navigator::{Cond, Debugger, HitIndex, Move, OutOfRange, Probe};
+use crate::source::rw_navigator::{Cond, Debugger, HitIndex, Move, OutOfRange, Probe, Visitor};
 use crate::source::rw_script::{Played, Script, play};
 use crate::source::rw_world::World;
 use crate::shim::alloc::{AllocError, Global};
@@ -55,6 +56,41 @@ impl Walk {
     {
         let debugger = Debugger::open(alloc, run)?;
         Ok(Walk::at_end(alloc, debugger))
+    }
+
+    /// Opens a walk at the last place of a run, and takes the run over: there is no second list of its entries. Without memory, it
+    /// gives the run back.
+    pub fn of_run(alloc: Global, run: Run<u64>) -> Result<Walk, Run<u64>>
+//~         ensures run { IfOk result (λ walk. walk.run ≡ run) }
+//~         ensures place { IfOk result (λ walk. walk.place ≡ last_place run) }
+//~         ensures back { IfErr result (λ back. back ≡ run) }
+    {
+        match Debugger::of_run(alloc, run) {
+            Ok(debugger) => Ok(Walk::at_end(alloc, debugger)),
+            Err(run) => Err(run),
+        }
+    }
+
+    /// Gives out the run, and what of the walk stays meanwhile. It allocates nothing.
+    pub fn pause(self) -> (Run<u64>, PausedWalk)
+//~         requires { IsRun self.run.specs self.run.entries }
+//~         ensures run { result.0 ≡ self.run }
+//~         ensures paused { result.1 ≡ self }
+    {
+        let Walk {
+            alloc,
+            debugger,
+            place,
+            indexes,
+        } = self;
+        let (run, visitor) = debugger.pause();
+        let paused = PausedWalk {
+            alloc,
+            visitor,
+            place,
+            indexes,
+        };
+        (run, paused)
     }
 
     /// Runs a script, and opens a walk at the last place of its run, with the machine and the entries of its book. Also returns
@@ -282,6 +318,49 @@ impl Walk {
             }
             Command::Move(to) => self.make_move(to, out),
             Command::List => unreachable!(),
+        }
+    }
+}
+
+/// A walk whose run others have: its world and its indexes stay.
+//~ #[derive(Drop)]
+pub struct PausedWalk {
+    alloc: Global,
+    visitor: Visitor<u64>,
+    place: u64,
+    indexes: Vec<CondIndex>,
+}
+
+//~ impl Model for PausedWalk {
+//~     ghost use Rattle.std.specs.Prelude.{◌≡◌, ◌≤◌, All};
+//~     ghost use Rattle.rw_console.specs.Walk.{Walk as Seen};
+//~     ghost use Rattle.rw_navigator.specs.Places.{last_place as last_of};
+//~
+//~     ghost Value = { Seen };
+//~
+//~     ghost view = { λ a. record { run = a.visitor.run; place = a.place } };
+//~
+//~     ghost invariant = { λ a. (a.place ≤ last_of a.visitor.run) × All (λ i. i.index.entries ≡ a.visitor.run.entries) a.indexes.items };
+//~ }
+
+impl PausedWalk {
+    /// Returns the walk, which takes over the run again. It allocates nothing.
+    pub fn resume(self, run: Run<u64>) -> Walk
+//~         requires { run ≡ self.run }
+//~         ensures { result ≡ self }
+    {
+        let PausedWalk {
+            alloc,
+            visitor,
+            place,
+            indexes,
+        } = self;
+        let debugger = visitor.resume(run);
+        Walk {
+            alloc,
+            debugger,
+            place,
+            indexes,
         }
     }
 }

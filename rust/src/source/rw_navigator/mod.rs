@@ -26,4 +26,4 @@ pub use counting::Counted;
 pub use hit_index::HitIndex;
 pub use moves::{Move, OutOfRange};
 pub use places::{MOST_PLACES, Navigator};
-pub use worlds::{Cond, Debugger, closed_at, lag_at, seen_at};
+pub use worlds::{Cond, Debugger, Visitor, closed_at, lag_at, seen_at};

@@ -5,4 +5,4 @@ use Rattle.rw_page.proofs.held_pages.states_page.Given as goal
 
 abbrev pub invariant-loop-place : goal.invariant-loop-place
 invariant-loop-place l =
-    (l.text.items ≡ flat_map (state_line l.initial.opened) (take l.place-index l.places)) × (l.opened ≡ l.initial.opened)
+    (l.text.items ≡ flat_map (state_line l.initial.walk.run) (take l.place-index l.places)) × (l.walk.run ≡ l.initial.walk.run)

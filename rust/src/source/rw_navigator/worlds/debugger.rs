@@ -2,8 +2,9 @@
 // From crates/rw_navigator/src/worlds/debugger.rt, with its contracts as comments. //+
 use crate::shim::Vec; //+
 
-//~ ghost use Rattle.std.specs.Prelude.{[], ◌≡◌, ◌<◌, ◌≤◌, ◌↔◌, ℕ, Bool, false, IsTrue, IfOk, IfSome, List, None, OnErr, OnOk, length, slice_get, unwrap_or};
+//~ ghost use Rattle.std.specs.Prelude.{[], ◌≡◌, ◌<◌, ◌≤◌, ◌↔◌, ℕ, Bool, false, IsTrue, IfErr, IfOk, IfSome, List, None, OnErr, OnOk, length, slice_get, unwrap_or};
 //~ ghost use Rattle.rw_journal.specs.Book.{opening_of};
+//~ ghost use Rattle.rw_journal.specs.Run.{IsRun};
 //~ ghost use Rattle.rw_navigator.specs.Debugger.{as_run, FoundAt, StandsAt, WentAlong, WentBy, WentTo};
 //~ ghost use Rattle.rw_navigator.specs.Hits.{hit_above, hit_below};
 //~ ghost use Rattle.rw_navigator.specs.Moves.{answer_to, answers_to, distance_between};
@@ -13,6 +14,7 @@ use crate::shim::Vec; //+
 //~ ghost use Rattle.rw_world.specs.Openings.{opening_row, refusal};
 //~ ghost use Rattle.rw_world.specs.Records.{IsDocumented};
 
+use super::visitor::Visitor;
 use crate::source::rw_navigator::conditions::Probe;
 use crate::source::rw_navigator::hit_index::HitIndex;
 use crate::source::rw_navigator::moves::{Move, OutOfRange};
@@ -22,13 +24,14 @@ use crate::source::rw_law::{Entry, NoMemory, Reversible};
 use crate::source::rw_world::{Spec, World, documented, machines};
 use crate::shim::alloc::Global;
 //~ use std::marker::Model;
+use crate::shim::snapshot::Snapshot;
 
 /// A run, and a world at one of its places, 0 to `len`. At place n it shows what is documented after the run's first n calls:
 /// what the records of all that was ever sent show then.
 //~ #[derive(Drop)]
 pub struct Debugger<V: Copy> {
-    specs: Vec<Spec<V>>,
-    visit: Navigator<World<V>>,
+    pub(super) specs: Vec<Spec<V>>,
+    pub(super) visit: Navigator<World<V>>,
 }
 
 //~ impl<V: Copy> Model for Debugger<V> {
@@ -68,6 +71,39 @@ impl<V: Copy> Debugger<V> {
         machines::<V>();
         documented::<V>();
         Debugger { specs, visit }
+    }
+
+    /// Opens a run at place 0, and takes it over: there is no second list of its entries. All memory that the moves will need is
+    /// allocated here. Without that memory, it gives the run back.
+    pub fn of_run(alloc: Global, run: Run<V>) -> Result<Debugger<V>, Run<V>>
+//~         ensures opened { IfOk result (λ debugger. StandsAt debugger run 0) }
+//~         ensures back { IfErr result (λ back. back ≡ run) }
+    {
+        match Visitor::open(alloc, &run) {
+            Ok(visitor) => Ok(visitor.resume(run)),
+            Err(NoMemory) => Err(run),
+        }
+    }
+
+    /// Gives out the run, and what stays at the place meanwhile. It allocates nothing.
+    pub fn pause(self) -> (Run<V>, Visitor<V>)
+//~         requires { IsRun self.run.specs self.run.entries }
+//~         ensures run { result.0 ≡ self.run }
+//~         ensures visitor { result.1 ≡ self }
+    {
+        let Debugger { specs, visit } = self;
+        let Navigator {
+            machine,
+            entries,
+            place,
+        } = visit;
+        let run = Run::of_parts(specs, entries);
+        let visitor = Visitor {
+            run: Snapshot::of(&run),
+            machine,
+            place,
+        };
+        (run, visitor)
     }
 
     /// Returns what the channels are opened as.

@@ -2,8 +2,7 @@
 use Rattle.std.proofs.Common.{◌≡◌, ◌<◌, ◌≤◌, ◌+◌, ◌^◌, ◌∙◌, ◌++◌, [], length, get_or, take, drop, refl, sym, ap, subst, arith}
 use Rattle.rw_world.specs.Machines.{of_world}
 use Rattle.rw_world.specs.declared.opening.TheConstants.{MOST_CHANNELS}
-use Rattle.rw_navigator.specs.Debugger.{StandsAt, WentBy}
-use Rattle.rw_navigator.specs.declared.moves.Move.TheVariants.{Goto}
+use Rattle.rw_navigator.specs.Debugger.{StandsAt, WentTo}
 use Rattle.rw_navigator.specs.Places.{last_place, shown_at}
 use Rattle.rw_world.proofs.Modifying.{length-modified}
 use Rattle.rw_findings.specs.LateReaders.{after_entry, opened, with_entry, with_closings, with_all_readers, HaveRoom, HaveFewHandles}
@@ -12,18 +11,19 @@ use Rattle.rw_findings.proofs.LossRuns.{at_place, length_at, few_specs}
 use Rattle.rw_findings.proofs.ClosingRuns.{AreKept, first_kept, have_room, few_handles, few_channels}
 use Rattle.rw_findings.specs.Closings.{AreClosings}
 use Rattle.rw_findings.specs.declared.closings.closing.Closings.{Closings}
-use Rattle.rw_findings.proofs.ClosingsOfRuns.{goes, kept_entry, are_closings, from_both}
+use Rattle.rw_findings.proofs.ClosingsOfRuns.{kept_entry, are_closings, from_both}
 use Rattle.rw_findings.proofs.closings.finding.closings_of.Goals as goal
 
 pub loop-entry-init : goal.loop-entry-init
 loop-entry-init g c =
     let run = c.args.run.now in
-    let stands : StandsAt c.in_ok-debugger.debugger run 0 = c.in_ok-debugger.ensures in
+    let stands : StandsAt c.in_ok-visitor.visitor run 0 = c.in_ok-visitor.ensures in
     let opened_are : c.in_ok-closed.closed.items ≡ opened c.specs.result.now = c.in_ok-closed.ensures in
     record {
       place = refl;
       entries = c.entries-entry-items.ensures.entries;
       run = stands.run_is;
+      here = stands.place;
       kept = subst (λ ks. AreKept (at_place run) run.entries 0 ks) (sym (opened_are ∙ ap opened c.specs.ensures.specs))
           (first_kept (at_place run) run.entries run.specs refl);
     }
@@ -38,13 +38,12 @@ loop-entry-preserved g c =
     let xs = of_world.shown c.state.result.now in
     let place : c.loop-entry.place + 1 ≡ n + 1 = ap (λ k. k + 1) c.loop-entry.invariant.place in
     let within : n < length run.entries = subst (λ es. n < length es) entries c.loop-entry-test.true in
-    let moved : WentBy c.loop-entry.debugger c.step-moved.new.self (Goto (c.loop-entry.place + 1)) = c.step-moved.ensures.moved in
-    let run_then : c.step-moved.new.self.run ≡ run = moved.run ∙ c.loop-entry.invariant.run in
-    let last : last_place c.loop-entry.debugger.run ≡ length run.entries = ap (λ r. last_place r) c.loop-entry.invariant.run in
-    let place_then : c.step-moved.new.self.place ≡ c.loop-entry.place + 1 =
-    moved.place ∙ goes (last_place c.loop-entry.debugger.run) c.loop-entry.debugger.place (c.loop-entry.place + 1) (omega (arith, place, within, last)) in
+    let moved : WentTo c.loop-entry.visitor c.advance.new.self (c.loop-entry.visitor.place + 1) 1 = c.advance.ensures in
+    let run_then : c.advance.new.self.run ≡ run = moved.run ∙ c.loop-entry.invariant.run in
+    let here_then : c.advance.new.self.place ≡ n + 1 = moved.place ∙ ap (λ k. k + 1) c.loop-entry.invariant.here in
+    let place_then : c.advance.new.self.place ≡ c.loop-entry.place + 1 = here_then ∙ sym place in
     let shown : xs ≡ shown_at run (c.loop-entry.place + 1) =
-    c.state.ensures.documented ∙ ap (λ r. shown_at r c.step-moved.new.self.place) run_then ∙ ap (λ p. shown_at run p) place_then in
+    c.state.ensures.documented ∙ ap (λ r. shown_at r c.advance.new.self.place) run_then ∙ ap (λ p. shown_at run p) place_then in
     let taken : c.follow_entry.new.closed ≡ with_entry xs c.deref_mut.result.now e (c.loop-entry.place + 1) = c.in_ok-follow_entry.ensures in
     let closed_are : take c.loop-entry.closed.len (c.follow_entry.new.closed ++ drop (length c.follow_entry.new.closed) ks)
     ≡ with_entry xs ks e (c.loop-entry.place + 1) =
@@ -57,9 +56,18 @@ loop-entry-preserved g c =
       place = place;
       entries = entries;
       run = run_then;
+      here = here_then;
       kept = subst (λ us. AreKept (at_place run) run.entries (n + 1) us) (sym closed_are)
           (kept_entry c.documented.ensures.places run n (c.loop-entry.place + 1) e xs ks place shown within read c.loop-entry.invariant.kept);
     }
+
+pub advance-requires-clause-same : goal.advance-requires-clause-same
+advance-requires-clause-same g c = sym c.loop-entry.invariant.run
+
+pub advance-requires-clause-more : goal.advance-requires-clause-more
+advance-requires-clause-more g c =
+    let last : last_place c.loop-entry.visitor.run ≡ length c.args.run.now.entries = ap (λ r. last_place r) c.loop-entry.invariant.run in
+    omega (arith, last, c.loop-entry.invariant.here, ap length c.loop-entry.invariant.entries, c.loop-entry-test.true)
 
 pub follow_entry-requires : goal.follow_entry-requires
 follow_entry-requires g c =

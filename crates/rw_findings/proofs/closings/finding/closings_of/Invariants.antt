@@ -7,6 +7,7 @@ abbrev pub invariant-loop-entry : goal.invariant-loop-entry
 invariant-loop-entry g l = record {
   place : l.place ≡ l.entry-index;
   entries : l.entry-items ≡ l.run.entries;
-  run : l.debugger.run ≡ l.run;
+  run : l.visitor.run ≡ l.run;
+  here : l.visitor.place ≡ l.entry-index;
   kept : AreKept (at_place l.run) l.run.entries l.entry-index l.closed.items;
 }
