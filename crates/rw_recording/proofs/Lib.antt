@@ -15,3 +15,5 @@ pub mod Numbered
 pub mod Played
 pub mod Stamps
 pub mod History
+pub mod Joining
+pub mod Flying

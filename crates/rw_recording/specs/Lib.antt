@@ -6,6 +6,7 @@ pub mod Goals
 pub mod History
 pub mod Kept
 pub mod Leading
+pub mod Past
 pub mod Playing
 pub mod Questions
 pub mod Recordings

@@ -16,6 +16,7 @@ mod laws;
 mod lead;
 mod leading;
 mod numbering;
+mod past;
 mod recording;
 mod run_reader;
 mod watch_lead;

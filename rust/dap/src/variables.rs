@@ -211,7 +211,10 @@ impl Debuggee {
         }
         match thing {
             Thing::Channel(channel) => Some(format!("channel{channel}")),
-            Thing::Receiver(channel, handle) => Some(format!("channel{channel}.receiver{handle}")),
+            Thing::Receiver(channel, handle) => {
+                let number = self.recording.things.number_of(channel, handle);
+                Some(format!("channel{channel}.receiver{number}"))
+            }
             Thing::Actor(_) => None,
         }
     }

@@ -72,7 +72,7 @@ impl CoreChannel {
     pub(crate) fn fly(&mut self, chunk: usize) -> Result<(), NoMemory> {
         let core = Recording::open_flight(self.first.core.spec(), chunk);
         self.first.core = core.map_err(|_| NoMemory)?;
-        self.first.look_seldom(handles_of(chunk));
+        self.first.look_when_full();
         Ok(())
     }
 
@@ -80,22 +80,37 @@ impl CoreChannel {
     /// has changed.
     pub(crate) fn keep_last(&mut self, chunk: usize) -> Result<(), NoMemory> {
         self.first.core.keep_last(chunk)?;
-        self.first.look_seldom(handles_of(chunk));
+        self.first.look_when_full();
         Ok(())
     }
 
     /// Takes the dropped handles out of the table of a channel that keeps its last calls, if they
-    /// are many, and sets when it is looked next. The calls are no longer kept then. Returns the
-    /// numbers that the others had, or `None` if nothing was taken out.
-    pub(crate) fn renumber_last(&mut self) -> Option<CoreVec<u32>> {
-        let is_alone = self.further.is_empty();
-        let before = if is_alone && self.first.has_many_dropped() {
-            self.renumber(0)
-        } else {
-            None
+    /// are many: with a chunk of so many calls, or where the table is full. The calls before are
+    /// kept by the previous numbers. Returns the numbers that the others had, or `None` if nothing
+    /// was taken out.
+    pub(crate) fn renumber_last(&mut self, chunk: Option<usize>) -> Option<CoreVec<u32>> {
+        let has_many = match chunk {
+            Some(chunk) => self.first.has_dropped_for_chunk(chunk),
+            None => self.first.has_many_dropped(),
         };
-        self.first.look_later();
+        if !has_many || !self.further.is_empty() {
+            return None;
+        }
+        let before = self.renumber(0);
+        self.first.look_when_full();
         before
+    }
+
+    /// Forgets the calls from before a renumbering, where enough later ones are kept. Returns
+    /// whether calls are kept by the numbers of before.
+    pub(crate) fn forget_past(&mut self) -> bool {
+        self.first.core.forget_past();
+        self.keeps_past()
+    }
+
+    /// Whether the last calls are kept by the numbers that handles had before a renumbering.
+    pub(crate) fn keeps_past(&self) -> bool {
+        self.first.core.keeps_past()
     }
 
     /// Returns the number of a handle in the table of the machine that has the journal.
@@ -278,13 +293,6 @@ impl CoreChannel {
         }
         reply
     }
-}
-
-/// How many handles a channel makes before its table is looked at, where this many calls are kept:
-/// so few that the table is small, and so many that the calls are seldom lost with them.
-fn handles_of(chunk: usize) -> u32 {
-    const LEAST: usize = 16_384;
-    (2 * chunk).clamp(LEAST, MOST_HANDLES as usize) as u32
 }
 
 /// Returns the machine with this number.

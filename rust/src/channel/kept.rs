@@ -16,7 +16,8 @@ pub(crate) struct KeptChannel {
 }
 
 /// A copy of what is known of a channel's last calls, beside the core. Its handles are known by
-/// their numbers in the channel's table.
+/// their numbers in the channel's table, or by those that they had there before a renumbering, as
+/// in the calls.
 pub(crate) struct NotedChannel {
     pub(crate) calls: LastCallsCopy,
     pub(crate) name: Option<String>,
@@ -103,17 +104,25 @@ impl ChannelState {
     /// Copies the last calls, or all calls if all are recorded. Returns `None` if the recording of
     /// the last calls has ended.
     pub(crate) fn kept(&mut self, times: Times) -> Result<Option<KeptChannel>, NoMemory> {
+        let keeps_past = self.core.keeps_past();
         let noted = match &self.last_calls {
-            Some(last) => last.copy()?,
+            Some(last) => last.copy(keeps_past)?,
             None if self.core.recorded().keeps_last() => return Ok(None),
-            None => self.noted(MOST_CHUNK, usize::MAX, times).copy()?,
+            None => self.noted(MOST_CHUNK, usize::MAX, times).copy(false)?,
         };
         let calls = self.core.recorded().kept(MOST_CHUNK)?;
-        let mut names: BTreeMap<u64, String> = noted.names.iter().cloned().collect();
+        // One by one, since `collect` would sort them in one list first.
+        let mut names = BTreeMap::new();
+        names.extend(noted.names.iter().cloned());
         let alive = self.handle_names.iter();
         names.extend(alive.map(|(number, name)| (self.core.nth(*number as u32), name.clone())));
         let waits = self.waits.items();
-        let waits = waits.map(|wait| (self.core.number_in_table(wait.handle), *wait));
+        let kept_number = |handle: u32| {
+            let number = self.core.number_in_table(handle);
+            let last = self.last_calls.as_ref();
+            last.map_or(number, |last| last.kept_number(number, keeps_past))
+        };
+        let waits = waits.map(|wait| (kept_number(wait.handle), *wait));
         let noted = NotedChannel {
             waits: waits.collect(),
             calls: noted,

@@ -3,9 +3,10 @@
 
 use super::CallSite;
 use super::locations::Locations;
-use super::made_handles::MadeHandles;
+use super::made_handles::{MadeHandles, PastHandles};
 use crate::backend::Actor;
 use crate::clock::{Moment, Times};
+use crate::lists::reserved;
 use crate::source::rw_law::NoMemory;
 use std::collections::VecDeque;
 use std::mem;
@@ -27,6 +28,9 @@ pub(crate) struct LastCalls {
     // The texts of values that were sent before, and may be retained.
     retained: VecDeque<(u64, Arc<str>)>,
     pub(super) handles: MadeHandles,
+    // If the handles of the table were numbered anew, those of before, where calls are kept by
+    // their previous numbers.
+    past: Option<PastHandles>,
     times: Times,
 }
 
@@ -94,6 +98,7 @@ impl LastCalls {
             newer: Chunk::default(),
             retained: VecDeque::new(),
             handles: MadeHandles::default(),
+            past: None,
             times,
         }
     }
@@ -129,12 +134,20 @@ impl LastCalls {
         self.count().checked_sub(1)
     }
 
+    /// How many calls a chunk has.
+    pub(super) fn chunk(&self) -> usize {
+        self.most
+    }
+
+    /// Whether the next call begins a chunk.
+    #[inline]
+    pub(super) fn has_full_chunk(&self) -> bool {
+        self.newer.sites.len() >= self.most
+    }
+
     /// Adds a call that is about to be made here by this actor, and gets this stamp.
     #[inline]
     pub(super) fn add(&mut self, called_at: CallSite, actor: Actor, stamp: u64) {
-        if self.newer.sites.len() >= self.most {
-            self.turn();
-        }
         if self.newer.sites.len() % CALLS_BETWEEN_TIMES == 0 {
             self.note_time(stamp);
         }
@@ -159,9 +172,7 @@ impl LastCalls {
     }
 
     /// Drops the older chunk, since the newer one is full.
-    #[cold]
-    #[inline(never)]
-    fn turn(&mut self) {
+    pub(super) fn turn(&mut self) {
         self.before += self.older.sites.len() as u64;
         self.retain_texts();
         self.older.clear();
@@ -176,12 +187,24 @@ impl LastCalls {
         self.retained.drain(..too_many);
     }
 
-    /// Forgets all calls, since the core has: the handles of its table have other numbers now.
-    /// `before` has the previous ones.
-    pub(super) fn begin_again(&mut self, before: &[u32]) {
-        self.handles.renumber(before);
-        self.turn();
-        self.turn();
+    /// Says that the handles of the table have other numbers now. `before` has the previous ones,
+    /// by which the core keeps the calls so far.
+    pub(super) fn renumber(&mut self, before: &[u32]) {
+        let handles = self.handles.renumbered(before);
+        let previous = mem::replace(&mut self.handles, handles);
+        self.past = Some(PastHandles::of(previous, before));
+    }
+
+    /// Forgets the handles of before a renumbering, since no call is kept by their numbers.
+    pub(super) fn forget_past(&mut self) {
+        self.past = None;
+    }
+
+    /// Returns the number by which the calls are kept, of a handle of the table with this number.
+    /// `keeps_past` says whether they are kept by the previous numbers.
+    pub(super) fn kept_number(&self, handle: u32, keeps_past: bool) -> u32 {
+        let past = self.past.as_ref().filter(|_| keeps_past);
+        past.map_or(handle, |past| past.number(handle))
     }
 
     /// Notes that the last call waited.
@@ -217,20 +240,27 @@ impl LastCalls {
         self.older.actors | self.newer.actors
     }
 
-    /// Returns a copy, to be read while the channel is used.
-    pub(super) fn copy(&self) -> Result<LastCallsCopy, NoMemory> {
+    /// Returns a copy, to be read while the channel is used. `keeps_past` says whether the calls
+    /// are kept by the numbers that handles had before the last renumbering.
+    pub(super) fn copy(&self, keeps_past: bool) -> Result<LastCallsCopy, NoMemory> {
         let chunks = [&self.older, &self.newer];
         let texts = chunks.iter().flat_map(|chunk| &chunk.texts);
         let texts = texts.map(|it| (it.number, it.text.clone()));
-        let texts_before = self.retained.iter().cloned();
+        let count = self.retained.len() + self.older.texts.len() + self.newer.texts.len();
+        let mut all_texts = reserved(count)?;
+        all_texts.extend(self.retained.iter().cloned());
+        all_texts.extend(texts);
         Ok(LastCallsCopy {
             count: self.count(),
             sites: joined(chunks.map(|chunk| &*chunk.sites))?,
             waited: joined(chunks.map(|chunk| &*chunk.waited))?,
             cancelled: joined(chunks.map(|chunk| &*chunk.cancelled))?,
-            texts: texts_before.chain(texts).collect(),
+            texts: all_texts,
             names: joined(chunks.map(|chunk| &*chunk.names))?,
-            handles: self.handles.copy()?,
+            handles: match &self.past {
+                Some(past) if keeps_past => past.with(&self.handles)?,
+                _ => self.handles.copy()?,
+            },
             moments: joined(chunks.map(|chunk| &*chunk.moments))?,
         })
     }
@@ -238,9 +268,7 @@ impl LastCalls {
 
 /// Copies two lists into one.
 fn joined<T: Clone>(lists: [&[T]; 2]) -> Result<Vec<T>, NoMemory> {
-    let mut joined = Vec::new();
-    let len = lists.iter().map(|list| list.len()).sum();
-    joined.try_reserve_exact(len).map_err(|_| NoMemory)?;
+    let mut joined = reserved(lists.iter().map(|list| list.len()).sum())?;
     for list in lists {
         joined.extend_from_slice(list);
     }
@@ -257,6 +285,9 @@ mod tests {
     }
 
     fn add(calls: &mut LastCalls, actor: usize) {
+        if calls.has_full_chunk() {
+            calls.turn();
+        }
         let stamp = calls.count() + 1;
         calls.add(call_site(), Actor::of(actor), stamp);
     }
@@ -269,13 +300,13 @@ mod tests {
         calls.note_cancelled();
         calls.add_name(7, "gone".into());
         (0..5).for_each(|_| add(&mut calls, 6));
-        let copy = calls.copy().unwrap();
+        let copy = calls.copy(false).unwrap();
         assert_eq!((copy.count, copy.sites.len()), (6, 6));
         assert_eq!((copy.waited, copy.cancelled), (vec![0], vec![0]));
         assert_eq!(copy.names, [(7, "gone".into())]);
         assert_eq!(calls.actors(), 1 << 5 | 1 << 6);
         add(&mut calls, 6);
-        let copy = calls.copy().unwrap();
+        let copy = calls.copy(false).unwrap();
         assert_eq!((copy.count, copy.sites.len()), (7, 4));
         assert!(copy.waited.is_empty() && copy.cancelled.is_empty() && copy.names.is_empty());
         assert_eq!(calls.actors(), 1 << 6);
@@ -289,7 +320,7 @@ mod tests {
             // There was no receiver for each third value.
             calls.add_text(number, number.to_string(), number % 3 != 2);
         }
-        let texts = calls.copy().unwrap().texts;
+        let texts = calls.copy(false).unwrap().texts;
         let numbers: Vec<_> = texts.iter().map(|(number, _)| *number).collect();
         assert_eq!(numbers, [1, 3, 4, 5, 6, 7]);
     }
@@ -301,7 +332,7 @@ mod tests {
             add(&mut calls, 0);
             calls.remove_last();
         }
-        let copy = calls.copy().unwrap();
+        let copy = calls.copy(false).unwrap();
         assert_eq!(
             (copy.count, copy.sites.len(), copy.moments.len()),
             (0, 0, 0)

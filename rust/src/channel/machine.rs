@@ -17,6 +17,10 @@ const FEW: u32 = 128;
 /// those that it can make.
 const FIRST_LOOK: u32 = 64;
 
+/// How many dropped handles a chunk of the last calls takes out at least, unless it has fewer
+/// calls.
+const LEAST_DROPPED: usize = 4_096;
+
 /// Who makes the calls that open a machine. They are not recorded.
 const NOBODY: Caller = Caller {
     actor: Actor::FIRST,
@@ -49,8 +53,6 @@ pub(super) struct Machine {
     made: u32,
     // When it has made as many, it is looked whether many of them are dropped.
     look_at: u32,
-    // It isn't looked sooner, where the last calls alone are kept.
-    least_look: u32,
     // The channel's number of each handle, by the number here, once the two may differ. A handle
     // that is nobody's has none.
     numbers: Vec<u32>,
@@ -76,7 +78,6 @@ impl Machine {
             most,
             made: 2,
             look_at: most,
-            least_look: 0,
             numbers: Vec::new(),
             has_early: true,
             sender: None,
@@ -106,7 +107,6 @@ impl Machine {
             most,
             made,
             look_at: most,
-            least_look: 0,
             numbers: vec![NO_NUMBER; made as usize],
             has_early: false,
             sender,
@@ -183,28 +183,35 @@ impl Machine {
         self.has_room()
     }
 
-    /// Says that the last calls of the channel are kept alone. It is looked for dropped handles
-    /// when this many handles were made, and not much sooner: the calls before are no longer kept
-    /// then.
-    pub(super) fn look_seldom(&mut self, handles: u32) {
+    /// Says that the last calls of the channel are kept alone. Each chunk of these looks for
+    /// dropped handles, so a call that creates one looks for them only where the machine is full.
+    pub(super) fn look_when_full(&mut self) {
         // The lead of a journal may need two.
         self.most = self.most.min(MOST_HANDLES - 2);
-        self.least_look = handles;
-        self.look_later();
+        self.look_at = self.most;
     }
 
-    /// Sets when it is looked next for dropped handles: when it has made twice as many.
-    pub(super) fn look_later(&mut self) {
-        let twice = 2 * self.made;
-        self.look_at = twice.max(self.least_look).min(self.most);
+    /// Whether so many handles are dropped that they are to be taken out with a chunk of the last
+    /// calls: half of them, and not a few. Where the machine has little room for handles of the
+    /// next chunk, which has so many calls, some of them are enough.
+    pub(super) fn has_dropped_for_chunk(&self, chunk: usize) -> bool {
+        let dropped = self.dropped();
+        let is_half = dropped as usize >= chunk.min(LEAST_DROPPED) && dropped >= self.made / 2;
+        let is_nearly_full = (self.most - self.made) as usize <= chunk;
+        is_half || is_nearly_full && dropped > self.most / FEW
+    }
+
+    /// How many of the handles that it has made are dropped.
+    fn dropped(&self) -> u32 {
+        let core = &self.core;
+        let alive = core.senders() + core.weak_senders() + core.receivers();
+        self.made - alive as u32
     }
 
     /// Whether so many handles are dropped that a renumbering takes no longer than it took to make
     /// them: half of them. In a full machine some of them are enough.
     pub(super) fn has_many_dropped(&self) -> bool {
-        let core = &self.core;
-        let alive = core.senders() + core.weak_senders() + core.receivers();
-        let dropped = self.made - alive as u32;
+        let dropped = self.dropped();
         dropped >= self.made.div_ceil(2) || self.made == self.most && dropped > self.most / FEW
     }
 

@@ -2,6 +2,7 @@
 //! created before, by its number in the channel's table.
 
 use super::CallSite;
+use crate::lists::reserved;
 use crate::source::rw_law::NoMemory;
 
 /// The handles of a table. Those that the table forgets are forgotten here too.
@@ -39,25 +40,61 @@ impl MadeHandles {
         }
     }
 
-    /// Returns a copy.
-    pub(super) fn copy(&self) -> Result<MadeHandles, NoMemory> {
-        let mut sites = Vec::new();
-        let reserved = sites.try_reserve_exact(self.sites.len());
-        reserved.map_err(|_| NoMemory)?;
+    /// Returns a copy, which has these sites more.
+    fn with_sites(&self, more: &[CallSite]) -> Result<MadeHandles, NoMemory> {
+        let mut sites = reserved(self.sites.len() + more.len())?;
         sites.extend_from_slice(&self.sites);
+        sites.extend_from_slice(more);
+        let mut survivors = reserved(self.survivors.len())?;
+        survivors.extend_from_slice(&self.survivors);
         Ok(MadeHandles {
             sites,
-            survivors: self.survivors.clone(),
+            survivors,
             next: self.next,
         })
     }
 
-    /// Forgets the handles that aren't among these. The others get the numbers 0, 1, 2, ..
-    pub(super) fn renumber(&mut self, alive: &[u32]) {
-        let next = self.nth(self.len());
-        self.survivors = alive.iter().map(|number| self.nth(*number)).collect();
-        self.sites = alive.iter().map(|number| self.made_at(*number)).collect();
-        self.next = next;
+    /// Returns a copy.
+    pub(super) fn copy(&self) -> Result<MadeHandles, NoMemory> {
+        self.with_sites(&[])
+    }
+
+    /// Returns these handles alone, which get the numbers 0, 1, 2, ..
+    pub(super) fn renumbered(&self, alive: &[u32]) -> MadeHandles {
+        MadeHandles {
+            survivors: alive.iter().map(|number| self.nth(*number)).collect(),
+            sites: alive.iter().map(|number| self.made_at(*number)).collect(),
+            next: self.nth(self.len()),
+        }
+    }
+}
+
+/// The handles of a table before it was renumbered.
+pub(super) struct PastHandles {
+    handles: MadeHandles,
+    // The numbers of those that stayed.
+    alive: Vec<u32>,
+}
+
+impl PastHandles {
+    pub(super) fn of(handles: MadeHandles, alive: &[u32]) -> PastHandles {
+        PastHandles {
+            handles,
+            alive: alive.to_vec(),
+        }
+    }
+
+    /// Returns the number that a handle had before, or would have had if it was created later.
+    pub(super) fn number(&self, handle: u32) -> u32 {
+        match self.alive.get(handle as usize) {
+            Some(number) => *number,
+            None => self.handles.len() + handle - self.alive.len() as u32,
+        }
+    }
+
+    /// Returns a copy, with the later ones of these handles.
+    pub(super) fn with(&self, now: &MadeHandles) -> Result<MadeHandles, NoMemory> {
+        self.handles.with_sites(&now.sites[self.alive.len()..])
     }
 }
 
@@ -71,7 +108,8 @@ mod tests {
         let mut handles = MadeHandles::default();
         let sites = [call_site(), None, call_site()];
         (0..6).for_each(|number| handles.add(sites[number % 3]));
-        handles.renumber(&[0, 2, 5]);
+        let past = PastHandles::of(handles.copy().unwrap(), &[0, 2, 5]);
+        let mut handles = handles.renumbered(&[0, 2, 5]);
         assert_eq!(handles.len(), 3);
         assert_eq!([0, 1, 2, 3, 4].map(|it| handles.nth(it)), [0, 2, 5, 6, 7]);
         assert_eq!(
@@ -80,7 +118,11 @@ mod tests {
         );
         handles.add(sites[1]);
         handles.add(sites[0]);
-        handles.renumber(&[2, 4]);
+        assert_eq!([0, 1, 2, 3, 4].map(|it| past.number(it)), [0, 2, 5, 6, 7]);
+        let whole = past.with(&handles).unwrap();
+        assert_eq!((whole.len(), whole.nth(7)), (8, 7));
+        assert_eq!((whole.made_at(4), whole.made_at(7)), (sites[1], sites[0]));
+        let handles = handles.renumbered(&[2, 4]);
         assert_eq!([0, 1, 2].map(|it| handles.nth(it)), [5, 7, 8]);
         assert_eq!([0, 1].map(|it| handles.made_at(it)), [sites[2], sites[0]]);
     }

@@ -40,6 +40,9 @@ impl RecordedChannel {
         state: &mut ChannelState,
         (actor, called_at): (Actor, CallSite),
     ) -> u64 {
+        if state.has_full_chunk() {
+            state.turn_chunks();
+        }
         let Some(last) = &mut state.last_calls else {
             return 0;
         };

@@ -262,16 +262,40 @@ impl ChannelState {
     }
 
     /// Makes room for a further handle in a channel that keeps its last calls: if many of its
-    /// handles are dropped, they are taken out. The calls before are no longer kept then, since
-    /// they have the handles' previous numbers. Returns whether there is room.
+    /// handles are dropped, they are taken out. Returns whether there is room.
     pub(super) fn make_room_for_handles(&mut self) -> bool {
         let Some(last) = &mut self.last_calls else {
             return false;
         };
-        if let Some(before) = self.core.renumber_last() {
-            last.begin_again(&before);
+        if let Some(before) = self.core.renumber_last(None) {
+            last.renumber(&before);
         }
         !self.core.has_named_all()
+    }
+
+    /// Whether the next one of the last calls begins a chunk.
+    #[inline]
+    pub(super) fn has_full_chunk(&self) -> bool {
+        let last = self.last_calls.as_ref();
+        last.is_some_and(|last| last.has_full_chunk())
+    }
+
+    /// Begins a chunk of the last calls, and drops the one before the last. If many handles are
+    /// dropped, they are taken out.
+    #[cold]
+    #[inline(never)]
+    pub(super) fn turn_chunks(&mut self) {
+        let Some(last) = &mut self.last_calls else {
+            return;
+        };
+        last.turn();
+        if self.core.forget_past() {
+            return;
+        }
+        last.forget_past();
+        if let Some(before) = self.core.renumber_last(Some(last.chunk())) {
+            last.renumber(&before);
+        }
     }
 
     /// Whether the channel is recorded, and has created as many handles as a journal names.

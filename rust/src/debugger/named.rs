@@ -63,11 +63,16 @@ pub struct NamedCondition {
     pub(crate) count: Option<u64>,
 }
 
+/// A number that no receiver has in a channel.
+const NO_NUMBER: u64 = u64::MAX;
+
 /// The things of a run, with their names.
 #[derive(Default)]
 pub struct Things {
     channels: Vec<(String, bool)>,
     receivers: BTreeMap<(u32, u32), String>,
+    /// The numbers of receivers in their channels, where these differ from those in the journal.
+    numbers: BTreeMap<(u32, u32), u64>,
     actors: BTreeMap<u32, String>,
     /// The only actor that made calls by each receiver without a name of its own, as far as that is
     /// known.
@@ -171,11 +176,18 @@ impl Things {
         let channel = |channel| (names.channel(channel), is_watch(channel));
         let receiver = |(channel, handle)| ((channel, handle), names.receiver(channel, handle));
         let actors = actors.into_iter();
-        Things::named(
+        let mut things = Things::named(
             (0..walk.channels()).map(channel).collect(),
             receivers.into_iter().map(receiver).collect(),
             actors.map(|it| (it, names.actor(it))).collect(),
-        )
+        );
+        let all = things.receivers.keys();
+        let numbers = all.map(|&(channel, handle)| {
+            let number = names.number(channel, handle);
+            ((channel, handle), number.unwrap_or(NO_NUMBER))
+        });
+        things.numbers = numbers.collect();
+        things
     }
 
     /// Finds the things of a run, and names them.
@@ -219,9 +231,24 @@ impl Things {
             by_name: of_actors.chain(of_channels).chain(of_receivers).collect(),
             channels,
             receivers,
+            numbers: BTreeMap::new(),
             actors,
             users: BTreeMap::new(),
         }
+    }
+
+    /// Returns the number of a receiver in its channel.
+    pub fn number_of(&self, channel: u32, handle: u32) -> u64 {
+        let number = self.numbers.get(&(channel, handle));
+        number.copied().unwrap_or(handle.into())
+    }
+
+    /// Returns the number in the journal of a receiver that is written as `receiver1`.
+    fn receiver_numbered(&self, channel: u32, text: &str) -> Option<u32> {
+        let number = u64::from(numbered(text, "receiver")?);
+        let all = self.receivers.range((channel, 0)..=(channel, u32::MAX));
+        let mut all = all.map(|((_, handle), _)| *handle);
+        all.find(|handle| self.number_of(channel, *handle) == number)
     }
 
     /// The names.
@@ -239,9 +266,8 @@ impl Things {
             let Some(Thing::Channel(channel)) = self.find(channel) else {
                 return None;
             };
-            let handle = numbered(receiver, "receiver")?;
-            let is_one = self.receivers.contains_key(&(channel, handle));
-            return is_one.then_some(Thing::Receiver(channel, handle));
+            let handle = self.receiver_numbered(channel, receiver)?;
+            return Some(Thing::Receiver(channel, handle));
         }
         let channel = numbered(name, "channel")?;
         ((channel as usize) < self.channels.len()).then_some(Thing::Channel(channel))
@@ -278,7 +304,8 @@ impl Things {
         let is_user = |receiver: &(u32, u32)| self.users.get(receiver) == Some(&visible);
         let used = || {
             meant().find(|((channel, handle), known)| {
-                **known == format!("receiver {handle}") && is_user(&(*channel, *handle))
+                let number = self.number_of(*channel, *handle);
+                **known == format!("receiver {number}") && is_user(&(*channel, *handle))
             })
         };
         if let Some((receiver, _)) = of_name().or_else(used) {
@@ -286,9 +313,8 @@ impl Things {
         }
         let (channel, receiver) = name.rsplit_once('.')?;
         let channel = self.channel(channel, is_meant)?;
-        let handle = numbered(receiver, "receiver")?;
-        let is_one = self.receivers.contains_key(&(channel, handle));
-        is_one.then_some((channel, handle))
+        let handle = self.receiver_numbered(channel, receiver)?;
+        Some((channel, handle))
     }
 
     fn is_watch(&self, channel: u32) -> Option<bool> {
@@ -352,8 +378,9 @@ impl Things {
 
     /// Returns the name of a receiver, with that of its channel where it has none of its own.
     fn name_of(&self, channel: u32, handle: u32, name: &str) -> String {
-        if *name == format!("receiver {handle}") {
-            format!("{}.receiver{handle}", self.channels[channel as usize].0)
+        let number = self.number_of(channel, handle);
+        if *name == format!("receiver {number}") {
+            format!("{}.receiver{number}", self.channels[channel as usize].0)
         } else {
             name.to_string()
         }
@@ -382,6 +409,26 @@ mod tests {
             receivers.map(|(it, name)| (it, name.to_string())).into(),
             actors.map(|(it, name)| (it, name.to_string())).into(),
         )
+    }
+
+    #[test]
+    fn receivers_of_a_window_are_known_by_their_numbers_in_the_channel() {
+        let mut things = things();
+        things.numbers = [((0, 1), NO_NUMBER), ((0, 2), 107), ((1, 1), 2)].into();
+        assert_eq!(
+            things.find("orders.receiver107"),
+            Some(Thing::Receiver(0, 2))
+        );
+        assert_eq!(
+            things.find("channel1.receiver2"),
+            Some(Thing::Receiver(1, 1))
+        );
+        for text in ["orders.receiver1", "orders.receiver2", "config.receiver1"] {
+            assert_eq!(things.find(text), None, "{text}");
+        }
+        let lagging: NamedCondition = "lagging orders.receiver107".parse().unwrap();
+        let numbered = lagging.by_numbers(&things).unwrap();
+        assert_eq!(numbered.to_string(), "lagging 0 2");
     }
 
     fn by_numbers(text: &str) -> Option<String> {

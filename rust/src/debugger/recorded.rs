@@ -134,6 +134,12 @@ impl Recorded {
         self.saying.channel(channel)
     }
 
+    /// Returns the number of a handle in its channel, which in a window differs from that in the
+    /// journal. One that is only in the lead has none.
+    pub fn number(&self, channel: u32, handle: u32) -> Option<u64> {
+        self.saying.names().real_number(channel, handle)
+    }
+
     pub fn receiver(&self, channel: u32, handle: u32) -> String {
         self.saying.handle(channel, handle, true)
     }

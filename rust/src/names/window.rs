@@ -51,6 +51,14 @@ impl Names {
         channels.get(&channel.into()).filter(|it| it.lead > 0)
     }
 
+    /// Returns the real number of a handle. One that is only in the lead has none.
+    pub(crate) fn real_number(&self, channel: u32, handle: u32) -> Option<u64> {
+        let window = self.window.as_ref();
+        let channel = window.and_then(|window| window.channels.get(&channel.into()));
+        let number = channel.and_then(|channel| channel.handles.get(handle as usize));
+        number.map_or(Some(handle.into()), |number| *number)
+    }
+
     /// Returns the number by which texts call a handle: its real one.
     pub(crate) fn handle_number(&self, channel: u32, handle: u64) -> String {
         let window = self.window.as_ref();

@@ -51,10 +51,9 @@ impl Recorder {
     /// most services.
     ///
     /// Of the [limits](Recorder#limits), the one of entries does not end its recording. It gives
-    /// 63 numbers to threads and tasks. When a channel has created 16,384 senders and receivers,
-    /// or twice `calls_per_channel`, those that are dropped are forgotten, and with them the calls
-    /// that are kept. If it has created 65,534 and nearly all of them are alive, its recording
-    /// ends.
+    /// 63 numbers to threads and tasks. Where a channel has 65,534 senders and receivers that are
+    /// alive or were dropped within `calls_per_channel` calls, the calls before are forgotten. If
+    /// nearly all of them are alive, its recording ends.
     ///
     /// # Examples
     ///

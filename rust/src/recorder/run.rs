@@ -7,6 +7,7 @@ use super::window_names::{self, Why};
 use super::windows::{Calls, Most, Windows};
 use crate::backend::{Actor, Cut, CutFault};
 use crate::channel::{CallSites, ChannelState, KeptChannel};
+use crate::lists::reserved;
 use crate::lock::{lock, try_lock_for};
 use crate::names::{HeldBy, Names, SourceLocation, WaitingCall};
 use crate::run;
@@ -175,7 +176,8 @@ impl RunSoFar<'_> {
         mut own: Option<(usize, KeptChannel)>,
         last: u64,
     ) -> io::Result<Copied> {
-        let mut channels = Vec::new();
+        let no_memory = |NoMemory| io::Error::other("no memory for the journal");
+        let mut channels = reserved(self.channels.len()).map_err(no_memory)?;
         let mut wanted = None;
         for (number, channel) in self.channels.iter().enumerate() {
             let kept = match own.take_if(|(own, _)| *own == number) {
@@ -183,9 +185,7 @@ impl RunSoFar<'_> {
                     wanted = Some(channels.len());
                     Some(kept)
                 }
-                None => lock(channel)
-                    .kept(self.shared.times)
-                    .map_err(|NoMemory| io::Error::other("no memory for the journal"))?,
+                None => lock(channel).kept(self.shared.times).map_err(no_memory)?,
             };
             channels.extend(kept);
         }
@@ -291,7 +291,9 @@ pub(super) struct Copied {
 impl Copied {
     /// Makes a run of them, and its names. No channel is locked.
     pub(super) fn into_run(mut self, why: Why, most: Most) -> io::Result<Read> {
-        let (mut calls, mut noted) = (Vec::new(), Vec::new());
+        let no_memory = |NoMemory| io::Error::other("no memory for the journal");
+        let mut calls = reserved(self.channels.len()).map_err(no_memory)?;
+        let mut noted = reserved(self.channels.len()).map_err(no_memory)?;
         for channel in self.channels {
             calls.push(Calls {
                 most_of_lead: channel.most_of_lead(),
@@ -301,7 +303,8 @@ impl Copied {
         }
         let made = Windows::of(calls, self.last, most)?;
         let channels = (&*noted, &made);
-        window_names::add(&mut self.names, &mut self.indexes, channels, why);
+        window_names::add(&mut self.names, &mut self.indexes, channels, why)
+            .map_err(|NoMemory| io::Error::other("no memory for the names"))?;
         self.names.locations = self.indexes.locations;
         Ok(Read {
             run: made.run,

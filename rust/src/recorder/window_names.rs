@@ -5,7 +5,9 @@ use super::windows::{MadeWindow, Windows};
 use crate::backend::{ENTRIES_AT_MOST, LEAD, Window};
 use crate::channel::NotedChannel;
 use crate::clock::{Moment, wall};
+use crate::lists::{collected, reserved};
 use crate::names::{ChannelWindow, Names, WindowNames};
+use crate::source::rw_law::NoMemory;
 use crate::wait::Wait;
 use std::collections::{BTreeMap, BTreeSet};
 use std::iter;
@@ -44,14 +46,15 @@ impl Why {
     }
 }
 
-/// Adds what is known of the channels, whose windows these are, to the names of the recorder.
+/// Adds what is known of the channels, whose windows these are, to the names of the recorder. Lists
+/// that grow with calls or handles may find no memory.
 pub(super) fn add(
     names: &mut Names,
     indexes: &mut Indexes,
     (channels, made): (&[NotedChannel], &Windows),
     why: Why,
-) {
-    let mut of_channels = Vec::new();
+) -> Result<(), NoMemory> {
+    let mut of_channels = reserved(channels.len())?;
     for (channel, made) in channels.iter().zip(&made.windows) {
         let window = &made.window;
         let number = of_channels.len() as u64;
@@ -62,12 +65,12 @@ pub(super) fn add(
             channel,
             made,
             window,
-            real: real_handles(channel, window),
+            real: real_handles(channel, window)?,
         };
         adding.add_names();
-        adding.add_calls();
+        adding.add_calls()?;
         adding.add_waits();
-        of_channels.push((number, adding.described()));
+        of_channels.push((number, adding.described()?));
     }
     if made.lead > 0 {
         let lead = LEAD.number().into();
@@ -80,9 +83,10 @@ pub(super) fn add(
         lead: made.lead,
         channels: of_channels.into_iter().collect(),
     });
-    names.times = times(channels);
+    names.times = times(channels)?;
     keep_texts_of_run(names, channels, made);
     raise(names, made);
+    Ok(())
 }
 
 /// Leaves out the texts of values that no call of the run has.
@@ -114,27 +118,36 @@ fn keep_texts_of_run(names: &mut Names, channels: &[NotedChannel], made: &Window
     names.values.retain(|_, texts| !texts.is_empty());
 }
 
+/// Collects pairs one by one, in small requests for memory. `collect` sorts them in one list first.
+fn inserted<V>(pairs: impl Iterator<Item = (u64, V)>) -> BTreeMap<u64, V> {
+    let mut map = BTreeMap::new();
+    map.extend(pairs);
+    map
+}
+
 /// Returns the number in the channel's table of each handle of the journal that isn't only in the
 /// lead.
-fn real_handles(channel: &NotedChannel, window: &Window) -> Vec<Option<u32>> {
-    let mut real = Vec::new();
+fn real_handles(channel: &NotedChannel, window: &Window) -> Result<Vec<Option<u32>>, NoMemory> {
+    let mut real: Vec<Option<u32>> = Vec::new();
     for number in 0..channel.calls.handles.len() {
         if let Some(in_journal) = window.number(number) {
-            let index = in_journal as usize;
-            real.resize(real.len().max(index + 1), None);
-            real[index] = Some(number);
+            let len = real.len().max(in_journal as usize + 1);
+            real.try_reserve(len - real.len()).map_err(|_| NoMemory)?;
+            real.resize(len, None);
+            real[in_journal as usize] = Some(number);
         }
     }
-    real
+    Ok(real)
 }
 
 /// Returns the times of calls, in the order of their stamps.
-fn times(channels: &[NotedChannel]) -> Vec<Moment> {
-    let moments = channels.iter().flat_map(|channel| &channel.calls.moments);
-    let mut moments: Vec<Moment> = moments.copied().collect();
-    moments.sort_by_key(|moment| moment.stamp);
+fn times(channels: &[NotedChannel]) -> Result<Vec<Moment>, NoMemory> {
+    let moments = channels.iter().map(|channel| &channel.calls.moments);
+    let count = moments.clone().map(Vec::len).sum();
+    let mut moments = collected(count, moments.flatten().copied())?;
+    moments.sort_unstable_by_key(|moment| moment.stamp);
     moments.dedup_by_key(|moment| moment.stamp);
-    moments
+    Ok(moments)
 }
 
 /// Raises the stamps of the names as those of the calls are.
@@ -189,7 +202,7 @@ impl Adding<'_> {
         }
         let texts = channel.calls.texts.iter();
         let texts = texts.map(|(value, text)| (*value, text.to_string()));
-        let texts: BTreeMap<_, _> = texts.collect();
+        let texts = inserted(texts);
         if !texts.is_empty() {
             names.values.insert(number, texts);
         }
@@ -198,40 +211,41 @@ impl Adding<'_> {
         let named = real.clone().filter_map(|(in_journal, real)| {
             Some((in_journal, channel.name_of(handles.nth(real))?.clone()))
         });
-        let named: BTreeMap<u64, String> = named.collect();
+        let named = inserted(named);
         if !named.is_empty() {
             names.handles.insert(number, named);
         }
         let made = real.filter_map(|(in_journal, real)| {
             Some((in_journal, self.indexes.of(handles.made_at(real)?)))
         });
-        names.made.insert(number, made.collect());
+        names.made.insert(number, inserted(made));
     }
 
     /// Adds where each call was made, and which ones have waited or were cancelled. The lead's were
     /// made nowhere.
-    fn add_calls(&mut self) {
+    fn add_calls(&mut self) -> Result<(), NoMemory> {
         let (number, lead) = (self.number, self.window.lead());
         let nowhere = iter::repeat_n(None, lead as usize);
         let sites = self.channel.sites(self.made.calls);
         let sites = sites.map(|site| site.map(|location| self.indexes.of(location)));
-        let calls: Vec<_> = nowhere.chain(sites).collect();
+        let calls = collected((lead + self.made.calls) as usize, nowhere.chain(sites))?;
         if !calls.is_empty() {
             self.names.calls.insert(number, calls);
         }
         let before = self.channel.before(self.made.calls);
-        let entries = |indexes: &[u64]| -> Vec<u64> {
+        let entries = |indexes: &[u64]| {
             let kept = indexes.iter().filter_map(|index| index.checked_sub(before));
-            kept.map(|index| lead + index).collect()
+            collected(indexes.len(), kept.map(|index| lead + index))
         };
-        let waited = entries(&self.channel.calls.waited);
+        let waited = entries(&self.channel.calls.waited)?;
         if !waited.is_empty() {
             self.names.matching.waited.insert(number, waited);
         }
-        let cancelled = entries(&self.channel.calls.cancelled);
+        let cancelled = entries(&self.channel.calls.cancelled)?;
         if !cancelled.is_empty() {
             self.names.matching.cancelled.insert(number, cancelled);
         }
+        Ok(())
     }
 
     fn add_waits(&mut self) {
@@ -244,19 +258,18 @@ impl Adding<'_> {
     }
 
     /// Returns how the window of the channel begins.
-    fn described(&self) -> ChannelWindow {
+    fn described(&self) -> Result<ChannelWindow, NoMemory> {
         let handles = &self.channel.calls.handles;
         let real = self.real.iter();
         let lags = self.window.lags();
         let lags = lags.filter_map(|(real, lag)| Some((self.window.number(real)?.into(), lag)));
-        ChannelWindow {
+        let nths = real.map(|real| real.map(|real| handles.nth(real)));
+        Ok(ChannelWindow {
             lead: self.window.lead(),
             calls: self.channel.before(self.made.calls),
             sent: (!self.channel.is_watch).then_some(self.made.sent),
-            handles: real
-                .map(|real| real.map(|real| handles.nth(real)))
-                .collect(),
+            handles: collected(self.real.len(), nths)?,
             lags: lags.collect(),
-        }
+        })
     }
 }

@@ -2,6 +2,7 @@
 //! kept.
 
 use crate::backend::{Cut, CutFault, ENTRIES_AT_MOST, Kept, Lead, Window, WindowFault};
+use crate::lists::{collected, reserved};
 use crate::run::Run;
 use crate::source::rw_law::NoMemory;
 use std::io;
@@ -87,7 +88,8 @@ impl Windows {
         let is_late = firsts.max().is_some_and(|first| first > last);
         let last = if is_late { u64::MAX } else { last + raised };
         let mut cut = Cut::new();
-        let mut windows = Vec::new();
+        let mut windows =
+            reserved(leads.len()).map_err(|NoMemory| of_fault(WindowFault::NoMemory))?;
         for (lead, sent) in leads {
             let calls = lead.calls();
             let window = lead.play(raised).map_err(of_fault)?;
@@ -116,7 +118,7 @@ fn first_above(lead: u64) -> u64 {
 /// Leaves out the first calls of channels until a journal has room for all, and returns the leads,
 /// each with how many values were sent before its calls.
 fn fit(channels: Vec<Calls>, most: Most) -> Result<Vec<(Lead, u64)>, WindowFault> {
-    let mut all = Vec::new();
+    let mut all = reserved(channels.len())?;
     for (number, mut channel) in channels.into_iter().enumerate() {
         let lag = most.lag_on(number);
         channel.kept.settle(lag)?;
@@ -140,10 +142,10 @@ fn fit(channels: Vec<Calls>, most: Most) -> Result<Vec<(Lead, u64)>, WindowFault
         if few || none {
             return Ok(leads);
         }
-        all = leads
-            .into_iter()
-            .map(|(lead, _)| lead.into_kept())
-            .collect();
+        all = collected(
+            leads.len(),
+            leads.into_iter().map(|(lead, _)| lead.into_kept()),
+        )?;
         share(&mut all, room)?;
     }
 }
@@ -151,13 +153,14 @@ fn fit(channels: Vec<Calls>, most: Most) -> Result<Vec<(Lead, u64)>, WindowFault
 /// Returns the leads of channels, one after the other.
 fn leads(channels: Vec<Kept>) -> Result<Vec<(Lead, u64)>, WindowFault> {
     let mut clock = 0;
-    let leads = channels.into_iter().map(|kept| {
+    let mut leads = reserved(channels.len())?;
+    for kept in channels {
         let sent = kept.sent();
         let lead = kept.lead(clock)?;
         clock += lead.len();
-        Ok((lead, sent))
-    });
-    leads.collect()
+        leads.push((lead, sent));
+    }
+    Ok(leads)
 }
 
 /// Leaves out the first calls of the longest channels, so that all have no more calls than this

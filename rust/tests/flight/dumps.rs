@@ -96,7 +96,9 @@ fn the_close_of_a_channel_with_that_name_calls_for_a_dump() {
     let _entered = recorder.enter();
     let (config, _server) = watch::channel(0);
     let (other, _rx) = watch::channel(0);
+    let (second, _client) = watch::channel(0);
     recorder.name(&config, "config").name(&other, "other");
+    recorder.name(&second, "config");
     drop(other);
     assert_eq!(recorder.dumps(), Default::default());
     config.send(1).unwrap();
@@ -105,6 +107,9 @@ fn the_close_of_a_channel_with_that_name_calls_for_a_dump() {
     let (journal, names) = dumps_in(&folder).pop().unwrap();
     assert_eq!(trigger(&names), "close");
     assert!(journal.ends_with(" drop 0 = dropped\nend\n"));
+    // Another one would be too near.
+    drop(second);
+    assert_eq!(recorder.dumps().left_out(), 1);
     fs::remove_dir_all(folder).unwrap();
 }
 

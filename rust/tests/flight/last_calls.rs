@@ -52,7 +52,7 @@ fn a_short_run_has_no_lead() {
 
 /// Returns what an object of the names has of the first channel.
 fn of_first_channel(names: &str, key: &str) -> BTreeMap<u64, String> {
-    let object = member(names, key).trim_start_matches("{\"0\": ");
+    let object = member(names, key).strip_prefix("{\"0\": ").unwrap();
     texts(object.trim_end_matches('}'))
 }
 
@@ -110,6 +110,21 @@ fn texts_are_those_of_values_that_the_journal_has() {
 }
 
 #[test]
+fn the_first_value_keeps_its_text_where_it_was_not_overwritten() {
+    let recorder = Recorder::flight(4);
+    let _entered = recorder.enter();
+    let (prices, _chart) = broadcast::channel(64);
+    recorder.show(&prices, |price| format!("{price} EUR"));
+    for price in 0..20 {
+        prices.send(price).unwrap();
+    }
+    let names = recorder.names();
+    assert!(lead(&names) > 0);
+    let wanted = (0..20).map(|value| (value, format!("{value} EUR")));
+    assert!(wanted.eq(of_first_channel(&names, "values")));
+}
+
+#[test]
 fn each_call_has_its_place_and_the_lead_has_none() {
     let recorder = Recorder::flight(3);
     let _entered = recorder.enter();
@@ -129,19 +144,17 @@ fn each_call_has_its_place_and_the_lead_has_none() {
 }
 
 #[test]
-fn when_a_table_of_handles_is_full_the_window_begins_again() {
+fn a_window_goes_on_where_dropped_handles_are_taken_out() {
     let recorder = Recorder::flight(1_000);
     let _entered = recorder.enter();
     let (prices, mut chart) = broadcast::channel(4);
     recorder.name(&prices, "prices").name(&chart, "chart");
-    let mut least = u64::MAX;
     for connection in 0..150_000 {
         drop(prices.subscribe());
-        if connection > 1_000 {
-            least = least.min(recorder.len());
-        }
+        // Each is two calls.
+        assert!(recorder.len() >= 1_000.min(2 * connection + 2));
+        assert!(recorder.len() <= 2_000);
     }
-    assert!(least < 10, "{least}");
     prices.send(7).unwrap();
     assert_eq!(chart.try_recv(), Ok(7));
     let mut late = prices.subscribe();
@@ -158,12 +171,37 @@ fn when_a_table_of_handles_is_full_the_window_begins_again() {
         .map(|it| window.handles[it as usize])
         .collect();
     assert_eq!(alive, [Some(1), Some(150_002)]);
-    assert!(window.calls > 250_000);
+    assert_eq!(window.calls + end - window.lead, 300_004);
+    // Each handle of the window has its number in the channel.
+    let made: Vec<u64> = window.handles.iter().flatten().copied().collect();
+    assert_eq!(&made[..2], [0, 1]);
+    assert!(made[2..].iter().copied().eq(made[2]..=150_002));
     assert_eq!(
         recorder.snapshot().channels()[0].receivers()[1].name(),
         "receiver 150002"
     );
     assert!(member(&names, "handles").contains("\"chart\""));
+}
+
+#[test]
+fn a_wait_that_began_before_dropped_handles_were_taken_out_has_its_receiver() {
+    let recorder = Recorder::flight(100);
+    let _entered = recorder.enter();
+    let (prices, _chart) = broadcast::channel::<u32>(4);
+    let gone: Vec<_> = (0..300).map(|_| prices.subscribe()).collect();
+    let mut audit = prices.subscribe();
+    let mut wait = Box::pin(audit.recv());
+    assert!(super::support::poll_once(wait.as_mut()).is_none());
+    drop(gone);
+    for _ in 0..150 {
+        drop(prices.subscribe());
+    }
+    let names = recorder.names();
+    let window = &windows(&names)[0];
+    let waiting = member(&names, "waiting");
+    let handle = waiting.split("\"handle\": ").nth(1).unwrap();
+    let handle: usize = handle.split([',', '}']).next().unwrap().parse().unwrap();
+    assert_eq!(window.handles[handle], Some(302));
 }
 
 #[test]

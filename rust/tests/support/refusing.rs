@@ -1,4 +1,4 @@
-//! An allocator that refuses requests of one thread: those that a `Refusal` names, while a closure
+//! An allocator that refuses requests of one thread, or one request of all others, while a closure
 //! runs.
 //!
 //! A program that uses it says `#[global_allocator] static ALLOCATOR: Refusing = Refusing;`.
@@ -7,6 +7,7 @@
 use std::alloc::{GlobalAlloc, Layout, System};
 use std::cell::Cell;
 use std::ptr;
+use std::sync::atomic::{AtomicU64, AtomicUsize, Ordering};
 
 /// The requests that are refused.
 #[derive(Clone, Copy, Debug)]
@@ -71,6 +72,41 @@ pub fn refusing<T>(refusal: Refusal, run: impl FnOnce() -> T) -> (T, u64) {
     (result, REFUSED.get())
 }
 
+thread_local! {
+    // Whether this thread refuses requests of all others.
+    static IS_ONE: Cell<bool> = const { Cell::new(false) };
+}
+
+// How many bytes a request of another thread has at least, to be counted.
+static LEAST: AtomicUsize = AtomicUsize::new(usize::MAX);
+// How many of these were counted, which one of them is refused, and how many were.
+static COUNTED: AtomicU64 = AtomicU64::new(0);
+static WHICH: AtomicU64 = AtomicU64::new(0);
+static REFUSED_OF_OTHERS: AtomicU64 = AtomicU64::new(0);
+
+/// Runs a closure, and refuses one request of the threads that aren't this one: of those that have
+/// at least so many bytes, the one after so many. Returns also how many were refused.
+pub fn refusing_others<T>(least: usize, allowed: u64, run: impl FnOnce() -> T) -> (T, u64) {
+    IS_ONE.set(true);
+    COUNTED.store(0, Ordering::SeqCst);
+    WHICH.store(allowed, Ordering::SeqCst);
+    REFUSED_OF_OTHERS.store(0, Ordering::SeqCst);
+    LEAST.store(least, Ordering::SeqCst);
+    let result = run();
+    LEAST.store(usize::MAX, Ordering::SeqCst);
+    (result, REFUSED_OF_OTHERS.load(Ordering::SeqCst))
+}
+
+/// Whether a request of this many bytes is refused, since another thread refuses it.
+fn is_refused_by_one(size: usize) -> bool {
+    if size < LEAST.load(Ordering::SeqCst) || IS_ONE.get() {
+        return false;
+    }
+    let is_it = COUNTED.fetch_add(1, Ordering::SeqCst) == WHICH.load(Ordering::SeqCst);
+    REFUSED_OF_OTHERS.fetch_add(u64::from(is_it), Ordering::SeqCst);
+    is_it
+}
+
 /// Runs a closure whose requests are neither counted nor refused.
 pub fn paused<T>(run: impl FnOnce() -> T) -> T {
     let refusal = REFUSAL.take();
@@ -82,7 +118,7 @@ pub fn paused<T>(run: impl FnOnce() -> T) -> T {
 /// Whether a request of this many bytes is refused.
 fn is_refused(size: usize) -> bool {
     let Some(mut refusal) = REFUSAL.get() else {
-        return false;
+        return is_refused_by_one(size);
     };
     if size < refusal.least {
         return false;

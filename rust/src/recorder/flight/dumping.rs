@@ -3,7 +3,6 @@
 use super::dump::Dumps;
 use crate::atomic::AtomicU64;
 use crate::lock::lock;
-use crate::wait::now;
 use std::io;
 use std::path::{Path, PathBuf};
 use std::sync::Mutex;
@@ -64,18 +63,22 @@ impl Dumping {
         wanted(&lock(&self.settings))
     }
 
-    /// Begins a dump, which `end` is to be told of. Returns its folder and how many are kept there.
+    /// Begins a dump at this time, which `end` is to be told of. Returns its folder and how many
+    /// are kept there.
     ///
     /// # Errors
     ///
     /// Returns why it isn't begun: there is no folder, another one is being written, or something
     /// has triggered it too short a time after the last one.
-    pub(super) fn begin(&self, is_asked: bool) -> io::Result<(PathBuf, usize)> {
+    pub(super) fn begin(
+        &self,
+        is_asked: bool,
+        now: Option<Instant>,
+    ) -> io::Result<(PathBuf, usize)> {
         let mut settings = lock(&self.settings);
         let Some(folder) = settings.folder.clone() else {
             return self.fail(io::Error::other("it has no folder: `dump_to` sets one"));
         };
-        let now = now();
         let since = now.zip(settings.last).map(|(now, last)| now - last);
         let is_near = since.is_some_and(|since| since < settings.at_most_every);
         if is_near && !is_asked || self.is_busy.swap(true, Ordering::SeqCst) {
@@ -113,5 +116,30 @@ impl Dumping {
             failed: count(&self.failed),
             left_out: count(&self.left_out),
         }
+    }
+}
+
+#[cfg(test)]
+mod tests {
+    use super::*;
+
+    #[test]
+    fn what_came_too_soon_puts_nothing_off() {
+        let dumping = Dumping::default();
+        dumping.set_folder(Path::new("dumps"));
+        let begun = Instant::now();
+        // A minute is the time without `at_most_every`. Each dump that is begun ends at once.
+        let begins = |seconds, is_asked| {
+            let at = begun + Duration::from_secs(seconds);
+            let begins = dumping.begin(is_asked, Some(at)).is_ok();
+            if begins {
+                dumping.end();
+            }
+            begins
+        };
+        let triggered = [0, 30, 59, 60, 61, 119].map(|seconds| begins(seconds, false));
+        assert_eq!(triggered, [true, false, false, true, false, false]);
+        assert_eq!((begins(119, true), begins(121, false)), (true, false));
+        assert_eq!(dumping.counts().left_out(), 5);
     }
 }

@@ -168,6 +168,20 @@ mod tests {
     }
 
     #[test]
+    fn names_that_cannot_be_written_leave_the_journal_as_it_was() {
+        let folder = crate::temporary::path("flight-names-first");
+        let _ = fs::remove_dir_all(&folder);
+        let path = folder.join("flight-20260101T000000000Z-9-1");
+        // A folder is in the names' place.
+        fs::create_dir_all(path.with_extension("names").join("x")).unwrap();
+        let journal = path.with_extension("journal");
+        fs::write(&journal, "before").unwrap();
+        assert!(write(&path, "j", "n").is_err());
+        assert_eq!(fs::read_to_string(&journal).unwrap(), "before");
+        fs::remove_dir_all(&folder).unwrap();
+    }
+
+    #[test]
     fn a_dump_that_cannot_be_written_leaves_nothing() {
         let folder = crate::temporary::path("flight-refused");
         let _ = fs::remove_dir_all(&folder);

@@ -10,6 +10,7 @@ use crate::clock::{Moment, wall};
 use crate::events::values;
 use crate::handle::Kind;
 use crate::source::rw_law::NoMemory;
+use crate::wait::now;
 use std::io;
 use std::panic::{self, AssertUnwindSafe};
 use std::path::PathBuf;
@@ -99,7 +100,7 @@ impl DumpRequest {
         let Some(flight) = &recorder.flight else {
             return Err(io::Error::other("this recorder is no flight recorder"));
         };
-        let (folder, keep) = flight.dumping.begin(trigger == "call")?;
+        let (folder, keep) = flight.dumping.begin(trigger == "call", now())?;
         let (told, ended) = channel();
         let last = recorder.last();
         let request = DumpRequest {
