@@ -1,32 +1,38 @@
 //! Who makes a call: the innermost named future, or else the task of a runtime that tells its tasks
-//! apart, or else the thread. A recorder gives each of them a number. Channels, recorders, events,
-//! replays and explored runs ask who it is.
+//! apart, or else the thread. A task that nobody named is known by where it comes from, if that is
+//! told. A recorder gives each of them a number. Channels, recorders, events, replays and explored
+//! runs ask who it is.
 
 mod caller;
 mod holders;
 mod identity;
 mod named;
+mod origin;
+mod own;
+mod spawned;
 
 pub use caller::set_task_id;
 pub(crate) use caller::{
     CallerNumber, cached, current, has_called, is_current_caller, is_dropping_future,
-    name_of_caller, name_of_future, write_caller,
+    name_of_caller, name_of_future, name_of_thread_alone, write_caller,
 };
 pub(crate) use holders::Unused;
 pub(crate) use identity::Identity;
 pub use named::{Named, named};
+pub(crate) use origin::SPAWNED_TASK;
+pub use spawned::{SpawnedTask, blocking_task, spawned_task};
 
 use crate::backend::Actor;
 use crate::channel::CallSite;
 use crate::replay::UNNAMED_TASK;
-use caller::{current_task, is_unnamed, name_of_thread};
+use caller::{current_task, is_spawned_task, is_unnamed, name_of_thread};
 use holders::{Holder, Holders};
 use std::collections::{BTreeMap, BTreeSet, HashMap, HashSet, VecDeque};
 use std::panic::Location;
 
-/// How many tasks without a name have a number of their own in a journal. Other numbers are left
+/// How many tasks that nobody named have a number of their own in a journal. Other numbers are left
 /// for threads and named futures.
-const MOST_TASKS: usize = 32;
+pub(crate) const MOST_TASKS: usize = 32;
 
 /// How many names of those that share the last number are stored.
 const MOST_SHARING: usize = 1024;
@@ -56,6 +62,10 @@ pub(crate) struct Actors {
     first_calls: BTreeMap<u64, &'static Location<'static>>,
     // The numbers of threads and tasks without a name.
     unnamed: BTreeSet<u64>,
+    // Those of tasks that are known by where they come from.
+    spawned: BTreeSet<u64>,
+    // Whether the names are those of a journal that is replayed.
+    are_of_journal: bool,
     // In a replay, the numbers of such actors of the journal that nobody has yet.
     free: VecDeque<usize>,
     // The numbers that nobody has any more, and no stored call.
@@ -78,11 +88,46 @@ impl Actors {
     /// Returns the number of the current actor, whose call is made here in the source, if it has
     /// one or there is one for it.
     pub(crate) fn find(&mut self, task: Option<u64>, called_at: CallSite) -> Option<Actor> {
+        if is_spawned_task() {
+            return self.find_spawned();
+        }
         if let Some(name) = name_of_future() {
-            return self.find_named(name);
+            return self.find_named(name, Holder::current());
         }
         let of_task = task.and_then(|task| self.find_task(task, called_at));
-        of_task.or_else(|| self.find_named(name_of_thread()))
+        of_task.or_else(|| self.find_thread())
+    }
+
+    /// Returns the number of this thread, if it has one or there is one for it.
+    fn find_thread(&mut self) -> Option<Actor> {
+        self.find_named(name_of_thread(), Holder::thread())
+    }
+
+    /// Returns the number of this thread, if the current actor is a task on it that gets none.
+    pub(crate) fn find_for_task(&mut self) -> Option<Actor> {
+        is_spawned_task().then(|| self.find_thread()).flatten()
+    }
+
+    /// Returns the number of a task that is known by where it comes from, unless so many have one
+    /// that this one gets none. Then it gets no name either, but in a replay: a task of the journal
+    /// may come later than others.
+    fn find_spawned(&mut self) -> Option<Actor> {
+        let is_full = self.are_tasks_full();
+        if is_full && !self.are_of_journal {
+            return None;
+        }
+        let name = name_of_future()?;
+        if is_full && !self.numbers.contains_key(&name) {
+            return None;
+        }
+        let actor = self.find_named(name, Holder::current())?;
+        self.spawned.insert(actor.number().into());
+        Some(actor)
+    }
+
+    /// Whether as many tasks that nobody named have a number as can have one.
+    fn are_tasks_full(&self) -> bool {
+        self.tasks.len() + self.spawned.len() >= MOST_TASKS
     }
 
     /// Returns the last number, which the current actor shares. `true` marks the first one that
@@ -125,6 +170,7 @@ impl Actors {
             if !is_stored && self.holders[number].finds == finds {
                 self.numbers.remove(&self.names[number]);
                 self.unnamed.remove(&(number as u64));
+                self.spawned.remove(&(number as u64));
                 self.given_away.push_back(number);
                 self.holders[number] = Holders::given_away();
             }
@@ -133,8 +179,11 @@ impl Actors {
 
     /// Returns the number of the current actor, if it has one.
     pub(crate) fn known(&self) -> Option<Actor> {
-        if let Some(name) = name_of_future() {
-            return self.known_by(&name);
+        let name = name_of_future();
+        let of_future = name.as_deref().and_then(|name| self.known_by(name));
+        // A task that got no number has that of its thread.
+        if of_future.is_some() || name.is_some() && !is_spawned_task() {
+            return of_future;
         }
         let of_task = current_task().and_then(|task| self.tasks.get(&task).copied());
         of_task.or_else(|| self.known_by(&name_of_thread()))
@@ -152,7 +201,7 @@ impl Actors {
         if let Some(actor) = self.tasks.get(&task) {
             return Some(*actor);
         }
-        if self.tasks.len() == MOST_TASKS {
+        if self.are_tasks_full() {
             return None;
         }
         let number = self.number_for(&format!("{UNNAMED_TASK}{task}"), true)?;
@@ -195,7 +244,7 @@ impl Actors {
         Some(number)
     }
 
-    fn find_named(&mut self, name: String) -> Option<Actor> {
+    fn find_named(&mut self, name: String, holder: Holder) -> Option<Actor> {
         let actor = match self.numbers.get(&name) {
             Some(actor) => *actor,
             None => {
@@ -208,16 +257,22 @@ impl Actors {
                 actor
             }
         };
-        self.holders[actor.number() as usize].add(Holder::current());
+        self.holders[actor.number() as usize].add(holder);
         Some(actor)
     }
 
     /// Numbers the actors as a journal does, which is replayed. `None` stands for one that nobody
     /// named; the first ones of this run get these numbers.
     pub(crate) fn preload(&mut self, names: Vec<Option<String>>) {
+        self.are_of_journal = true;
         for (number, name) in names.into_iter().enumerate() {
             match &name {
-                Some(name) => drop(self.numbers.insert(name.clone(), Actor::of(number))),
+                Some(name) => {
+                    self.numbers.insert(name.clone(), Actor::of(number));
+                    if name.starts_with(SPAWNED_TASK) {
+                        self.spawned.insert(number as u64);
+                    }
+                }
                 None => self.free.push_back(number),
             }
             self.names

@@ -115,10 +115,22 @@ impl Recording {
         kept.map(Kept::of)
     }
 
+    /// Forgets the calls from before a renumbering, if as many later ones as a chunk has are kept.
+    pub(crate) fn forget_past(&mut self) {
+        if let Some(flight) = &mut self.last {
+            flight.forget_past();
+        }
+    }
+
+    /// Whether the last calls are kept by the numbers that handles had before a renumbering.
+    pub(crate) fn keeps_past(&self) -> bool {
+        self.last.as_ref().is_some_and(|flight| flight.is_joined())
+    }
+
     /// Takes the dropped handles out of a channel of which not all calls are recorded: those that
     /// are alive get the numbers 0, 1, 2, .., in the order of those that they had. Returns the
     /// numbers that they had, or `None` if there is no memory for it, and nothing has changed. A
-    /// channel with its last calls has none then.
+    /// channel with its last calls keeps these by the numbers that handles had.
     pub(crate) fn renumber(&mut self) -> Option<Vec<u32>> {
         match &mut self.last {
             Some(flight) => flight.renumber(Global).ok().flatten(),
@@ -137,7 +149,7 @@ impl Recording {
     /// How many calls are kept.
     pub(crate) fn entries(&self) -> u64 {
         match &self.last {
-            Some(flight) => flight.len(),
+            Some(flight) => flight.past_len() + flight.len(),
             None => self.all.len(),
         }
     }

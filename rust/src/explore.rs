@@ -40,7 +40,7 @@ pub(crate) use asked::{FOR, answer};
 pub(crate) use explorer::Explorer;
 pub(crate) use guide::{Known, KnownReceiver};
 pub(crate) use run::{current, end, follow, followed, is_run_of_search, target_folder, watch};
-pub use task::{Explored, explored, is_explored};
+pub(crate) use task::{ExploredTask, note_facade};
 pub(crate) use threads::{Asked, Sleeper, ThreadId, Threads, this_thread};
 
 /// Begins with the test of this name: explores it if the variable says so, or follows the order of

@@ -27,7 +27,7 @@ pub mod start {}
 
 #[doc = include_str!("guide/swap.md")]
 ///
-/// [`guide::replay`]: crate::guide::replay
+/// [`guide::tasks`]: crate::guide::tasks
 pub mod swap {}
 
 #[doc = include_str!("guide/tasks.md")]
@@ -63,6 +63,7 @@ pub mod report {}
 #[doc = include_str!("guide/replay.md")]
 ///
 /// [`guide::swap`]: crate::guide::swap
+/// [`guide::tasks`]: crate::guide::tasks
 /// [`Recorder::replay`]: crate::Recorder::replay
 /// [`Recorder::replayed`]: crate::Recorder::replayed
 pub mod replay {}

@@ -92,6 +92,7 @@ mod guarded_by;
 pub mod guide;
 mod handle;
 mod large_pages;
+mod lists;
 mod lock;
 mod names;
 mod polled;
@@ -118,13 +119,13 @@ pub mod watch;
 mod word;
 
 pub use actors::{Named, named, set_task_id};
+#[doc(hidden)]
+pub use actors::{SpawnedTask, blocking_task, spawned_task};
 pub use block_on::block_on;
 #[doc(hidden)]
 pub use budget::{budgeted, set_budget};
 pub use command::command;
 pub use events::{Close, Lag, on_close, on_lag};
-#[doc(hidden)]
-pub use explore::{Explored, explored, is_explored};
 pub use polled::Polled;
 #[doc(hidden)]
 pub use program::set_patch;
@@ -133,6 +134,8 @@ pub use recorder::{
     Waiting, follow_this_thread,
 };
 pub use replay::Replayed;
+#[doc(hidden)]
+pub use replay::is_thread_held;
 pub use snapshot::{ChannelSnapshot, ReceiverSnapshot, Snapshot, snapshot};
 
 // Runs the programs of the README.

@@ -26,6 +26,7 @@ mod window_names;
 mod windows;
 
 pub use current::{Entered, Installed, follow_this_thread};
+pub(crate) use current::{current_and_home, is_any_entered};
 pub(crate) use flight::DumpRequest;
 pub use flight::{Dump, DumpTo, Dumps};
 pub use for_test::{ForTest, SaveOnPanic};

@@ -24,7 +24,8 @@ mod tests;
 mod turns;
 
 pub(crate) use gate::Gate;
-pub(crate) use opening::{hold_polls, holds, open};
+pub use opening::is_thread_held;
+pub(crate) use opening::{hold_polls, holds, holds_task, is_any, open};
 pub use outcome::Replayed;
 pub(crate) use outcome::{TestEnd, say};
 pub(crate) use permit::Permit;

@@ -1,9 +1,10 @@
 //! Who calls now, on this thread: its own number and name, or those of the named future that it
 //! polls, and what was last looked up for it.
 
+use super::origin::WITHIN;
 use crate::atomic::AtomicU64;
 use crate::backend::Actor;
-use crate::replay::UNNAMED_THREAD;
+use crate::replay::{UNNAMED_TASK, UNNAMED_THREAD};
 use std::cell::{Cell, RefCell};
 use std::fmt::Write;
 use std::sync::atomic::Ordering;
@@ -36,7 +37,7 @@ impl CallerNumber {
     pub(crate) const NOBODY: CallerNumber = CallerNumber(u64::MAX);
 
     // That of a thread before it is asked for the first time.
-    const NONE_YET: CallerNumber = CallerNumber(0);
+    pub(super) const NONE_YET: CallerNumber = CallerNumber(0);
 
     pub(super) fn next() -> CallerNumber {
         static NEXT: AtomicU64 = AtomicU64::new(1);
@@ -50,10 +51,11 @@ thread_local! {
     pub(super) static CALLER: Cell<CallerNumber> = const { Cell::new(CallerNumber::NONE_YET) };
     // The result of the last lookup.
     pub(super) static CACHED: Cell<CachedActor> = const { Cell::new(NOT_CACHED) };
-    // The name of the future that this thread polls or drops, if it has one.
+    // The name of the future that this thread polls or drops, if it has one. That of a task which
+    // nobody named isn't made before it is asked for.
     pub(super) static NAME: RefCell<Option<Arc<str>>> = const { RefCell::new(None) };
     // Whether this thread drops a named future.
-    pub(super) static IS_DROPPING: Cell<bool> = const { Cell::new(false) };
+    static IS_DROPPING: Cell<bool> = const { Cell::new(false) };
 }
 
 /// Returns the number of the task that the current thread polls.
@@ -160,10 +162,11 @@ pub(crate) fn write_caller(before: CallerNumber, name: &mut String) -> CallerNum
         return number;
     }
     name.clear();
-    match (name_of_future(), task) {
-        (Some(future), _) => name.push_str(&future),
-        (None, Some(task)) => drop(write!(name, "task {task}")),
-        (None, None) => name.push_str(&name_of_thread()),
+    if !write_future(name) {
+        match task {
+            Some(task) => drop(write!(name, "{UNNAMED_TASK}{task}")),
+            None => name.push_str(&name_of_thread()),
+        }
     }
     // The tasks of one thread have its number, so none of them has it for the next call.
     match task {
@@ -172,28 +175,71 @@ pub(crate) fn write_caller(before: CallerNumber, name: &mut String) -> CallerNum
     }
 }
 
+/// Writes the name of the future that this thread polls or drops, and makes none that isn't made
+/// yet. Returns `false` if it has no name.
+fn write_future(text: &mut String) -> bool {
+    let of_future = NAME.try_with(|name| {
+        let name = name.borrow();
+        name.as_ref().map(|name| text.push_str(name)).is_some()
+    });
+    of_future.unwrap_or(false)
+        || WITHIN.try_with(|within| {
+            let within = within.borrow();
+            let origin = within.origin();
+            origin.map(|origin| write!(text, "{origin}")).is_some()
+        }) == Ok(true)
+}
+
+/// Returns the name of the future that this thread polls or drops. That of a task which nobody
+/// named is made now.
+fn of_future() -> Option<Arc<str>> {
+    // At the end of a thread, `NAME` may be destroyed before other values are dropped.
+    let name = NAME.try_with(|name| {
+        let mut name = name.borrow_mut();
+        if name.is_none() {
+            let made = WITHIN.try_with(|within| within.borrow().origin().map(ToString::to_string));
+            *name = made.ok().flatten().map(Into::into);
+        }
+        name.clone()
+    });
+    name.ok().flatten()
+}
+
+/// Whether this thread polls or drops a task that nobody named, and that is known by where it comes
+/// from.
+pub(super) fn is_spawned_task() -> bool {
+    let within = WITHIN.try_with(|within| within.borrow().origin().is_some());
+    within.unwrap_or(false)
+}
+
 /// Returns the future that this thread polls or drops, if it has a name. It is known by its copy of
 /// that name.
 pub(super) fn future() -> Option<Weak<str>> {
-    let name = NAME.try_with(|name| name.borrow().as_ref().map(Arc::downgrade));
-    name.ok().flatten()
+    of_future().as_ref().map(Arc::downgrade)
 }
 
 /// Returns the name of the future that this thread polls or drops.
 pub(crate) fn name_of_future() -> Option<String> {
-    // At the end of a thread, `NAME` may be destroyed before other values are dropped.
-    let name = NAME.try_with(|name| name.borrow().clone()).ok().flatten();
-    name.map(|name| name.to_string())
+    of_future().map(|name| name.to_string())
 }
 
-/// Returns the name that somebody gave the current caller: that of the future, or of the thread if
+/// Returns the name by which the current caller is known: that of the future, or of the thread if
 /// it runs no task.
 pub(crate) fn name_of_caller() -> Option<String> {
-    let of_thread = || match current_task() {
-        Some(_) => None,
-        None => Some(name_of_thread()).filter(|name| !is_unnamed(name)),
-    };
-    name_of_future().or_else(of_thread)
+    name_of_future().or_else(name_of_thread_alone)
+}
+
+/// Returns the name that somebody gave this thread, unless it runs a future with a name, or a task.
+pub(crate) fn name_of_thread_alone() -> Option<String> {
+    let is_alone = of_future().is_none() && current_task().is_none();
+    is_alone
+        .then(name_of_thread)
+        .filter(|name| !is_unnamed(name))
+}
+
+/// Whether a runtime says which task a thread runs.
+pub(super) fn are_tasks_told() -> bool {
+    TASK_ID.get().is_some()
 }
 
 /// Whether this is the name of a thread that nobody named.
@@ -213,4 +259,11 @@ pub(super) fn name_of_thread() -> String {
 #[inline]
 pub(crate) fn is_dropping_future() -> bool {
     IS_DROPPING.get()
+}
+
+/// Drops a named future by this function.
+pub(super) fn dropping(drop: impl FnOnce()) {
+    let was_dropping = IS_DROPPING.replace(true);
+    drop();
+    IS_DROPPING.set(was_dropping);
 }

@@ -22,11 +22,16 @@ impl Holder {
     pub(super) fn current() -> Holder {
         match future() {
             Some(future) => Holder::Future(future),
-            // At the end of a thread it may be gone already.
-            None => match ALIVE.try_with(Arc::downgrade) {
-                Ok(thread) => Holder::Thread(thread),
-                Err(_) => Holder::Forever,
-            },
+            None => Holder::thread(),
+        }
+    }
+
+    /// Returns this thread.
+    pub(super) fn thread() -> Holder {
+        // At the end of a thread it may be gone already.
+        match ALIVE.try_with(Arc::downgrade) {
+            Ok(thread) => Holder::Thread(thread),
+            Err(_) => Holder::Forever,
         }
     }
 

@@ -1,6 +1,6 @@
 //! Which callers are the same one, for a replay.
 
-use super::caller::{current_task, future};
+use super::caller::{are_tasks_told, current_task, future};
 use crate::block_on::is_blocked_on_future;
 use crate::reentrant::thread_number;
 use std::sync::Weak;
@@ -21,6 +21,11 @@ pub(crate) struct Identity {
 /// The names that tokio's versions give to workers.
 const WORKERS: [&str; 2] = ["tokio-runtime-worker", "tokio-rt-worker"];
 
+/// Whether this is the name of a worker of a runtime.
+pub(super) fn is_worker(thread: &str) -> bool {
+    WORKERS.contains(&thread)
+}
+
 impl Identity {
     /// Returns who calls now.
     pub(crate) fn current() -> Identity {
@@ -28,9 +33,7 @@ impl Identity {
             future: future(),
             task: current_task(),
             thread: thread_number(),
-            is_worker: thread::current()
-                .name()
-                .is_some_and(|name| WORKERS.contains(&name)),
+            is_worker: thread::current().name().is_some_and(is_worker),
         }
     }
 
@@ -56,10 +59,15 @@ impl Identity {
         self.thread
     }
 
+    /// Whether this may be a task, since no runtime says which tasks its thread runs.
+    pub(crate) fn may_be_task(&self) -> bool {
+        self.is_thread_alone() && !are_tasks_told()
+    }
+
     /// Whether this may be any task that the current thread polls. It is none where the thread
     /// itself is blocked on a future of this crate.
     pub(crate) fn may_be_any_task(&self) -> bool {
-        self.future.is_none() && self.task.is_none() && !is_blocked_on_future()
+        self.may_be_task() && !is_blocked_on_future()
     }
 
     /// Whether both are the same future, or the same task or thread without a name.

@@ -1,6 +1,7 @@
 //! Futures whose calls are recorded under a name of their own.
 
-use super::caller::{CACHED, CALLER, CachedActor, CallerNumber, IS_DROPPING, NAME, NOT_CACHED};
+use super::caller::dropping;
+use super::own::OwnCaller;
 use crate::budget::Budgeted;
 use crate::explore;
 use crate::replay;
@@ -35,9 +36,7 @@ use std::task::{Context, Poll};
 /// ```
 pub fn named<F: Future>(name: &str, future: F) -> Named<F> {
     Named {
-        name: Some(name.into()),
-        number: CallerNumber::next(),
-        cached: NOT_CACHED,
+        caller: OwnCaller::named(name),
         explored: None,
         future: Some(Box::pin(future)),
     }
@@ -63,9 +62,7 @@ pub fn named<F: Future>(name: &str, future: F) -> Named<F> {
 /// ```
 #[must_use = "futures do nothing unless polled"]
 pub struct Named<F> {
-    name: Option<Arc<str>>,
-    number: CallerNumber,
-    cached: CachedActor,
+    caller: OwnCaller,
     // Its name in a run that is explored, where no other task has it.
     explored: Option<Arc<str>>,
     // `None` once this is dropped.
@@ -73,39 +70,13 @@ pub struct Named<F> {
 }
 
 impl<F> Named<F> {
-    /// Swaps the name and the cached actor of this future with those of the thread.
-    fn swap_with_thread(&mut self) {
-        self.cached = CACHED.replace(self.cached);
-        self.number = CALLER.replace(self.number);
-        // At the end of a thread, `NAME` may be destroyed before the future is dropped.
-        let _ = NAME.try_with(|name| std::mem::swap(&mut *name.borrow_mut(), &mut self.name));
-    }
-
     /// Whether a replay holds this poll back, or a run that is explored, since it isn't this
     /// future's turn.
     #[inline]
     fn is_held(&mut self, context: &Context<'_>) -> bool {
-        // None before the first call, when the recorder isn't known yet.
-        let recorder = Some(self.cached.recorder).filter(|recorder| *recorder != 0);
-        let (name, task) = (self.name.as_ref(), &mut self.explored);
+        let recorder = self.caller.recorder();
+        let (name, task) = (self.caller.name(), &mut self.explored);
         name.is_some_and(|name| replay::holds(name, task, recorder, context))
-    }
-}
-
-/// While this is alive, the calls of this thread are made under the future's name. It is dropped
-/// also if the future panics.
-struct NameGuard<'a, F>(&'a mut Named<F>);
-
-impl<'a, F> NameGuard<'a, F> {
-    fn new(future: &'a mut Named<F>) -> NameGuard<'a, F> {
-        future.swap_with_thread();
-        NameGuard(future)
-    }
-}
-
-impl<F> Drop for NameGuard<'_, F> {
-    fn drop(&mut self) {
-        self.0.swap_with_thread();
     }
 }
 
@@ -117,8 +88,9 @@ impl<F: Future> Future for Named<F> {
             return Poll::Pending;
         }
         let _budgeted = Budgeted::named();
-        let guard = NameGuard::new(&mut self);
-        let future = guard.0.future.as_mut().expect("a future that is alive");
+        let this = &mut *self;
+        let _entered = this.caller.enter();
+        let future = this.future.as_mut().expect("a future that is alive");
         future.as_mut().poll(context)
     }
 }
@@ -130,17 +102,15 @@ impl<F> Drop for Named<F> {
         if let (Some(task), Some(explorer)) = (&self.explored, explore::current()) {
             explorer.leave(task);
         }
-        let guard = NameGuard::new(self);
-        let was_dropping = IS_DROPPING.replace(true);
-        guard.0.future = None;
-        IS_DROPPING.set(was_dropping);
+        let _entered = self.caller.enter();
+        dropping(|| self.future = None);
     }
 }
 
 impl<F> std::fmt::Debug for Named<F> {
     fn fmt(&self, f: &mut std::fmt::Formatter<'_>) -> std::fmt::Result {
         f.debug_struct("Named")
-            .field("name", &self.name)
+            .field("name", &self.caller.known_name())
             .finish_non_exhaustive()
     }
 }

@@ -180,7 +180,7 @@ fn a_cut_has_64_channels_at_most() {
 
 #[test]
 fn a_journal_and_its_text_grow_past_a_large_block() {
-    const CALLS: u64 = 100_000;
+    const CALLS: u64 = 70_000;
     let mut channel = open(Spec::Broadcast(1));
     for value in 0..CALLS {
         let sent = channel.broadcast_send(caller(0, value), 0, value);

@@ -252,7 +252,7 @@ impl Explorer {
 }
 
 /// While this is alive, this thread polls or drops a task without a name.
-pub(super) struct InTask {
+pub(crate) struct InTask {
     was_in_task: bool,
     before: Option<Arc<str>>,
 }

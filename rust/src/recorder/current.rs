@@ -6,7 +6,11 @@ use super::test_run::PATIENCE;
 use crate::lock::{lock, try_lock_for};
 use std::cell::RefCell;
 use std::marker::PhantomData;
+use std::sync::atomic::{AtomicBool, Ordering};
 use std::sync::{Arc, Mutex};
+
+/// Whether a recorder was entered or installed in this process.
+static IS_ANY: AtomicBool = AtomicBool::new(false);
 
 static INSTALLED: Stack = Stack {
     followed: None,
@@ -29,6 +33,7 @@ struct Stack {
 impl Stack {
     /// Returns the number of the new entry.
     fn push(&self, recorder: &Recorder) -> u64 {
+        IS_ANY.store(true, Ordering::Relaxed);
         let mut entries = lock(&self.entries);
         let number = entries.last().map_or(0, |(last, _)| last + 1);
         entries.push((number, recorder.clone()));
@@ -60,6 +65,19 @@ impl Stack {
                 .as_ref()
                 .is_some_and(|followed| followed.has(id))
     }
+}
+
+/// Whether a recorder was entered or installed in this process.
+#[inline]
+pub(crate) fn is_any_entered() -> bool {
+    IS_ANY.load(Ordering::Relaxed)
+}
+
+/// Returns the number of the recorder that a new channel of this thread would belong to, and the
+/// thread that has created it.
+pub(crate) fn current_and_home() -> Option<(u64, usize)> {
+    let current = Recorder::current()?;
+    Some((current.0.id, current.0.home))
 }
 
 /// Whether the recorder with this number is entered on this thread, or installed. It is called

@@ -59,13 +59,14 @@ impl Makers {
 #[cfg(test)]
 mod tests {
     use super::*;
+    use crate::run::tests::runs;
 
     #[test]
     fn a_maker_with_a_channel_in_the_run_goes_on_counting_and_others_are_forgotten() {
         let mut makers = Makers::default();
         let stays = Some("stays".to_string());
         assert_eq!((makers.count(&stays), makers.count(&stays)), (0, 1));
-        for request in 0..100_000 {
+        for request in 0..100 * runs() {
             assert_eq!(makers.count(&Some(format!("request {request}"))), 0);
             if makers.are_many() {
                 makers.forget_others(&[stays.clone()].into());

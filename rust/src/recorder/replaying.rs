@@ -26,8 +26,8 @@ impl Recorder {
     /// A call on a channel of this recorder waits until all calls that the journal has before it
     /// are made: a thread blocks, and a future is pending. So a test that failed by the order of
     /// its calls fails again. Give each task a name by [`named`](crate::named), also the one that
-    /// runs the test: callers without a name can't be told apart where they use the same sender or
-    /// receiver.
+    /// runs the test, unless a patch of tokio does: callers without a name can't be told apart
+    /// where they use the same sender or receiver.
     ///
     /// The replay diverges from the journal where another call comes than the recorded one, or none
     /// for two seconds, or for as many milliseconds as the environment variable

@@ -12,6 +12,7 @@ use crate::clock::Times;
 use crate::explore::{self, Known};
 use crate::lock::{lock, try_lock_for};
 use crate::names::{Maker, Unrecorded};
+use crate::reentrant::thread_number;
 use crate::replay::{self, Gate};
 use std::io;
 use std::path::Path;
@@ -42,6 +43,8 @@ struct CallCounter(AtomicU64);
 /// What a recorder's channels share.
 pub(crate) struct Shared {
     pub(crate) id: u64,
+    // The thread that has created the recorder.
+    pub(super) home: usize,
     // Whether channels that are created under this recorder aren't recorded.
     pub(super) is_off: bool,
     // Whether channels keep their last calls once one of them has as many as a journal takes.
@@ -93,6 +96,7 @@ impl Shared {
     pub(super) fn new(is_off: bool) -> Shared {
         Shared {
             id: NEXT_ID.fetch_add(1, Ordering::Relaxed),
+            home: thread_number(),
             is_off,
             may_go_on: AtomicBool::new(false),
             flight: None,
@@ -265,6 +269,9 @@ impl Shared {
     fn find_actor(&self, task: Option<u64>, called_at: CallSite) -> Actor {
         let find = || lock(&self.actors).find(task, called_at);
         if let Some(actor) = find().or_else(|| find_after(self.give_numbers_away(), find)) {
+            return actor;
+        }
+        if let Some(actor) = lock(&self.actors).find_for_task() {
             return actor;
         }
         let (actor, is_first_to_share) = lock(&self.actors).share();

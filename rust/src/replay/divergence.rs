@@ -42,11 +42,21 @@ pub(super) fn in_words(
         ),
         Came::ToWait => write!(words, ", came the same call, which had to wait"),
     };
-    words + &of_questions(plan, state, coming) + of_unnamed_tasks(plan, state)
+    words + &of_questions(plan, state, coming) + of_tasks(plan, state)
 }
 
-/// Says that tasks have no names, if some have none, and what to write.
-pub(super) fn of_unnamed_tasks(plan: &Plan, state: &GateState) -> &'static str {
+/// Says that tasks have no names, or those of their places alone, if some have, and what to write.
+pub(super) fn of_tasks(plan: &Plan, state: &GateState) -> &'static str {
+    let of_unnamed = of_unnamed_tasks(plan, state);
+    if of_unnamed.is_empty() && plan.spawned_tasks() > 0 {
+        "; tasks that nobody named are told apart by where they are spawned, and in which order: if that is \
+         another one now, write `tokio::spawn(yovanelum::named(\"clerk\", ..))` for each, and record again"
+    } else {
+        of_unnamed
+    }
+}
+
+fn of_unnamed_tasks(plan: &Plan, state: &GateState) -> &'static str {
     if state.has_unnamed_tasks || plan.has_unnamed_tasks() {
         "; tasks without a name make calls, and a replay can't hold back their polls: write \
          `tokio::spawn(yovanelum::named(\"clerk\", ..))` for each, and \

@@ -85,9 +85,37 @@ pub(crate) fn holds(
     is_any() && is_held(name, task, recorder, context)
 }
 
-/// Whether a gate was opened in this process.
+/// Whether the poll of a task with this name, or with none, is held back by an open gate, as that
+/// of a future with a name is. A run that is explored holds it otherwise.
+#[cold]
+pub(crate) fn holds_task(
+    name: Option<&Arc<str>>,
+    recorder: Option<u64>,
+    context: &Context<'_>,
+) -> bool {
+    let name = name.filter(|_| explore::current().is_none());
+    name.is_some_and(|name| is_held_by_gate(name, recorder, context))
+}
+
+/// Whether the poll of a future on which this thread blocks is held back by an open gate, since the
+/// next call of the thread would block the tasks that it runs too.
+///
+/// No part of what this crate promises: it is for the package that stands for tokio.
+#[doc(hidden)]
 #[inline]
-fn is_any() -> bool {
+pub fn is_thread_held(context: &Context<'_>) -> bool {
+    is_any() && holds_thread(context)
+}
+
+#[cold]
+fn holds_thread(context: &Context<'_>) -> bool {
+    let name = actors::name_of_thread_alone().filter(|_| explore::current().is_none());
+    name.is_some_and(|name| is_held_by_gate(&name, None, context))
+}
+
+/// Whether a gate was opened in this process, or a run is explored.
+#[inline]
+pub(crate) fn is_any() -> bool {
     IS_ANY.load(Ordering::Acquire)
 }
 
@@ -106,6 +134,10 @@ fn is_held(
     if let Some(explorer) = explore::current() {
         return explorer.holds(task, name, context);
     }
+    is_held_by_gate(name, recorder, context)
+}
+
+fn is_held_by_gate(name: &str, recorder: Option<u64>, context: &Context<'_>) -> bool {
     let recorder = recorder.or_else(|| Recorder::current().map(|current| current.0.id));
     let within = actors::name_of_future();
     let gate = gate_of(recorder);

@@ -1,7 +1,7 @@
 //! How a replay went, in words.
 
 use super::Coming;
-use super::divergence::of_unnamed_tasks;
+use super::divergence::of_tasks;
 use super::plan::{Plan, PlannedCall};
 use super::state::GateState;
 use crate::backend::Actor;
@@ -195,7 +195,7 @@ pub(super) fn replayed(plan: &Plan, state: &GateState) -> Replayed {
                 "ended before {}: {}{}",
                 call_of(plan, state.position),
                 step_in_words(plan, step),
-                of_unnamed_tasks(plan, state)
+                of_tasks(plan, state)
             )
         }),
         shared: state.shared.clone(),

@@ -7,6 +7,7 @@
 //! in the journal.
 
 use super::Coming;
+use crate::actors::{MOST_TASKS, SPAWNED_TASK};
 use crate::backend::Actor;
 use crate::names::{Maker, Names};
 use crate::run::{Run, RunEntry};
@@ -199,13 +200,21 @@ impl Plan {
         is_last || has_calls || self.names.actors.contains_key(&number.into())
     }
 
-    /// Whether the journal has calls of tasks that nobody named.
+    /// Whether the journal has calls of tasks without a name, or may have, since others have as
+    /// many numbers as such tasks get.
     pub(super) fn has_unnamed_tasks(&self) -> bool {
         let mut unnamed = self.names.matching.unnamed.iter();
-        unnamed.any(|actor| {
+        let is_any = unnamed.any(|actor| {
             let name = self.names.actors.get(actor);
             name.is_some_and(|name| name.starts_with(UNNAMED_TASK))
-        })
+        });
+        is_any || self.spawned_tasks() >= MOST_TASKS
+    }
+
+    /// Returns how many tasks the journal has that are known by where they come from.
+    pub(super) fn spawned_tasks(&self) -> usize {
+        let names = self.numbers.keys();
+        names.filter(|name| name.starts_with(SPAWNED_TASK)).count()
     }
 
     /// Returns the number of the actor with this name, unless the journal has none or nobody gave

@@ -257,7 +257,7 @@ impl GateState {
     /// thread is known, and a runtime polls tasks there.
     fn see_unnamed(&mut self, user: &Identity) {
         self.has_unnamed_tasks |= user.is_unnamed_task()
-            || user.is_thread_alone() && self.runtime_threads.contains(&user.thread());
+            || user.may_be_task() && self.runtime_threads.contains(&user.thread());
     }
 
     /// Records that a runtime polls a future with a name on this thread.

@@ -1,7 +1,7 @@
 //! The budget of tasks, by which a call that is always ready gives way to other tasks: tokio's own,
 //! where its version offers it, or else that of yovanelum, with which tasks are wrapped.
 
-use std::future::Future;
+use std::future::{Future, poll_fn};
 use std::pin::pin;
 use std::task::{Context, Poll};
 
@@ -76,8 +76,21 @@ pub(crate) fn tell() {
 /// Runs the future of a runtime that blocks on it. As in tokio, it has a budget too.
 pub(crate) async fn blocked_on<F: Future>(future: F) -> F::Output {
     if is_offered() {
-        future.await
+        held(future).await
     } else {
-        yovanelum::budgeted(future).await
+        yovanelum::budgeted(held(future)).await
     }
+}
+
+/// Runs a future on which a thread blocks. A replay holds its polls back as those of tasks.
+pub(crate) async fn held<F: Future>(future: F) -> F::Output {
+    let mut future = pin!(future);
+    let poll = |context: &mut Context<'_>| {
+        if yovanelum::is_thread_held(context) {
+            Poll::Pending
+        } else {
+            future.as_mut().poll(context)
+        }
+    };
+    poll_fn(poll).await
 }

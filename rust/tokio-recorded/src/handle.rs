@@ -1,7 +1,7 @@
-//! tokio's `Handle`, whose tasks are seen where a test is explored.
+//! tokio's `Handle`, whose tasks are seen where there is a recorder.
 
 use crate::budget::blocked_on;
-use crate::spawning::seen;
+use crate::spawning::{seen, seen_blocking};
 use real_tokio::runtime as theirs;
 use real_tokio::task::JoinHandle;
 use std::future::Future;
@@ -45,7 +45,7 @@ impl Handle {
         F: FnOnce() -> R + Send + 'static,
         R: Send + 'static,
     {
-        self.0.spawn_blocking(function)
+        self.0.spawn_blocking(seen_blocking(function))
     }
 
     /// As tokio's own.

@@ -1,9 +1,9 @@
 //! tokio, with [`sync::broadcast`] and [`sync::watch`] recorded by yovanelum.
 //!
 //! Everything else is tokio's own, but the [`runtime::Runtime`] and its builder: their threads
-//! follow the test, and their tasks have a number each in its journal. What spawns tasks is wrapped
-//! too ([`spawn`], a runtime and its handle, and sets of tasks), so that they are seen where a test
-//! is explored. Types, functions and macros are re-exported, and so is what a later version adds.
+//! follow the test. What spawns tasks is wrapped too ([`spawn`], a runtime and its handle, and sets
+//! of tasks), so that each has a name of its own in the test's journal, and is seen where a test is
+//! explored. Types, functions and macros are re-exported, and so is what a later version adds.
 
 pub use real_tokio::*;
 
@@ -23,12 +23,12 @@ mod tasks;
 #[cfg(all(feature = "rt", feature = "sync"))]
 pub use spawning::spawn;
 
-/// tokio's `task`, with functions and sets that spawn tasks which are seen where a test is
-/// explored.
+/// tokio's `task`, with functions and sets that spawn tasks which are seen where there is a
+/// recorder.
 #[cfg(all(feature = "rt", feature = "sync"))]
 pub mod task {
     pub use crate::sets::{JoinSet, LocalSet};
-    pub use crate::spawning::{spawn, spawn_local};
+    pub use crate::spawning::{spawn, spawn_blocking, spawn_local};
     pub use real_tokio::task::*;
 }
 

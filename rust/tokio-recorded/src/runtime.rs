@@ -2,14 +2,15 @@
 //!
 //! So `#[tokio::test(flavor = "multi_thread")]` needs no other line, nor does `Runtime::new()`: a
 //! recorder that the test creates is entered on the threads of its runtime too, where its tasks
-//! run. Tasks without a name are told apart by their ids, where this tokio has `task::try_id`. An
-//! older one has it under `--cfg tokio_unstable` alone: there they have numbers of this package.
+//! run. Tasks that aren't known by the place that spawns them are told apart by their ids, where
+//! this tokio has `task::try_id`. An older one has it under `--cfg tokio_unstable` alone: there
+//! they have numbers of this package.
 
 pub use crate::handle::Handle;
 pub use real_tokio::runtime::*;
 
 use crate::budget::blocked_on;
-use crate::spawning::seen;
+use crate::spawning::{seen, seen_blocking};
 use crate::tasks;
 use real_tokio::runtime as theirs;
 use real_tokio::task::JoinHandle;
@@ -141,6 +142,16 @@ impl Runtime {
         F::Output: Send + 'static,
     {
         seen!(future => self.runtime.spawn(future))
+    }
+
+    /// As tokio's own.
+    #[track_caller]
+    pub fn spawn_blocking<F, R>(&self, func: F) -> JoinHandle<R>
+    where
+        F: FnOnce() -> R + Send + 'static,
+        R: Send + 'static,
+    {
+        self.runtime.spawn_blocking(seen_blocking(func))
     }
 
     /// As tokio's own.

@@ -1,5 +1,6 @@
-//! tokio's sets of tasks, which are seen where a test is explored.
+//! tokio's sets of tasks, which are seen where there is a recorder.
 
+use crate::budget::held;
 use crate::runtime::{Handle, Runtime};
 use crate::spawning::seen;
 use real_tokio::task as theirs;
@@ -176,7 +177,7 @@ impl LocalSet {
     /// As tokio's own.
     #[track_caller]
     pub fn block_on<F: Future>(&self, runtime: &Runtime, future: F) -> F::Output {
-        self.0.block_on(runtime, future)
+        self.0.block_on(runtime, held(future))
     }
 
     /// As tokio's own.

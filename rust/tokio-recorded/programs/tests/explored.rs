@@ -225,8 +225,11 @@ fn an_order_of_tasks_without_names_is_found() {
 fn tasks_without_names_are_actors_in_the_report() {
     let (passes, said) = explored("the_audit_lags");
     assert!(!passes, "{said}");
-    let lost = ") lost 1 of 3 values of channel 0 (capacity 2)";
-    let told = |line: &str| line.starts_with("error: `task ") && line.ends_with(lost);
+    let (task, lost) = (
+        "error: `task of tests/explored.rs:",
+        "` lost 1 of 3 values of channel 0 (capacity 2)",
+    );
+    let told = |line: &str| line.starts_with(task) && line.ends_with(lost);
     assert!(said.lines().any(told), "{said}");
 }
 

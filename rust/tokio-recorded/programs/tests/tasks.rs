@@ -1,7 +1,10 @@
-//! Tasks without a name are told apart, each with the line of its first call: by their ids, which
-//! this version of tokio says under `--cfg tokio_unstable` alone, and else by numbers of the patch.
+//! Tasks that aren't known by the place that spawns them are told apart, each with the line of its
+//! first call: by their ids, which this version of tokio says under `--cfg tokio_unstable` alone,
+//! and else by numbers of the patch.
 
 use std::collections::BTreeSet;
+use std::thread;
+use tokio::runtime::Handle;
 use tokio::sync::broadcast;
 use yovanelum::Recorder;
 
@@ -20,13 +23,17 @@ async fn three_tasks_of_one_runtime_are_told_apart() {
     let recorder = Recorder::for_test("three_tasks");
     let (orders, mut audit) = broadcast::channel(8);
     let (first, second) = (orders.clone(), orders);
+    let runtime = Handle::current();
     let line = line!();
-    let tasks = [
-        tokio::spawn(async move { drop(first.send(71)) }),
-        tokio::spawn(async move { drop(second.send(72)) }),
-        tokio::spawn(async move { while audit.recv().await.is_ok() {} }),
-    ];
-    for task in tasks {
+    let spawn = move || {
+        [
+            runtime.spawn(async move { drop(first.send(71)) }),
+            runtime.spawn(async move { drop(second.send(72)) }),
+            runtime.spawn(async move { while audit.recv().await.is_ok() {} }),
+        ]
+    };
+    // A thread without a name, and without a recorder.
+    for task in thread::spawn(spawn).join().unwrap() {
         task.await.unwrap();
     }
     let names = recorder.names();
@@ -36,7 +43,7 @@ async fn three_tasks_of_one_runtime_are_told_apart() {
         .collect();
     assert_eq!(numbers.len(), 3, "{names}");
     let locations = member(&names, "locations");
-    for line in line + 2..=line + 4 {
+    for line in line + 3..=line + 5 {
         let location = format!("[\"{}\", {line}, ", file!());
         assert!(locations.contains(&location), "{location} in {names}");
     }
