@@ -1,4 +1,4 @@
-"""The edits: wrong bodies that the prover has to refuse, and the functions in which their texts stand."""
+"""The edits: wrong bodies and definitions that the prover has to refuse, and the functions in which their texts stand."""
 import os
 
 from edits import Misfit, pairs_of
@@ -36,24 +36,30 @@ def places_of(pairs, texts):
 
 
 def function_at(file, place):
-    """The function in which a place is, or None."""
-    return next((one for one in file.functions if one.start <= place < one.end), None)
+    """The function in which a place of a source is, or None."""
+    return next((one for one in file.functions if one.start <= place < one.end), None) if file else None
+
+
+def definitions_of(top, crate, pairs):
+    """The texts of an edit's files that aren't sources, by their paths."""
+    paths = {path for path, *_ in pairs if path not in crate.files and path.startswith(("specs/", "proofs/"))}
+    return {path: read_text(f"{top}/crates/{crate.name}/{path}") for path in paths}
 
 
 def by_function(top, crate):
-    """The paths of the edits for each function of a crate, as pairs of a source's path and the function's first place. Of those in no function
-    the place is None."""
+    """The paths of the edits for each function of a crate, as pairs of a file's path and the function's first place. Of those in no function, as in
+    a definition, the place is None."""
     texts, found = {path: file.text for path, file in crate.files.items()}, {}
     for edit in edits_of(top, crate.name):
         try:
             pairs = pairs_of(read_text(f"{top}/{edit}"))
             if not pairs:
                 raise Misfit("it changes nothing")
-            places = places_of(pairs, texts)
-        except Misfit as why:
+            places = places_of(pairs, texts | definitions_of(top, crate, pairs))
+        except (Misfit, OSError) as why:
             raise items.Refused(f"{edit}:1: {why}") from why
         for path, place in places:
-            one = function_at(crate.files[path], place)
+            one = function_at(crate.files.get(path), place)
             listed = found.setdefault((path, one.start if one else None), [])
             if edit not in listed:
                 listed.append(edit)

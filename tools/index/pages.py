@@ -139,7 +139,8 @@ class Page:
         public = {(file.path, one.start) for file, _, one in self.public}
         for (path, start), edits in sorted(self.edits.items(), key=lambda it: (it[0][0], it[0][1] or -1)):
             if (path, start) not in public:
-                one = next((it for it in self.crate.files[path].functions if it.start == start), None)
+                functions = self.crate.files[path].functions if start is not None else []
+                one = next((it for it in functions if it.start == start), None)
                 name = f"`{inner_name(one)}`" if one else "-"
                 rows.append(f"| {name} | [{path}](../../../crates/{self.crate.name}/{path}) | {', '.join(map(link_to_edit, edits))} |")
         return ["## Edits of what is private", "", "| Function | File | Edits |", "|---|---|---|", *rows, ""] if rows else []

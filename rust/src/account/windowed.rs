@@ -232,6 +232,39 @@ fn a_channel_that_is_there_from_its_opening_is_known_in_whole() {
 }
 
 #[test]
+fn a_window_without_calls_is_looked_at_where_it_begins() {
+    let entries = ["63 0 send 0 1 = sent 1", "63 0 send 0 2 = sent 1"];
+    let bus = r#""lead": 2, "calls": 9, "sent": 7, "handles": [0, 1], "lags": {}"#;
+    let names = names(2, bus, NEW_STATE, "");
+    let found = account(&["broadcast 4", "watch 0"], &entries, &names);
+    assert_eq!((found.calls, found.look), (0, 2));
+}
+
+#[test]
+fn a_loss_that_the_last_call_of_the_lead_began_was_there_before() {
+    // The receiver lags by one where the window begins, and is told. The other channel has calls
+    // that were not recorded.
+    let entries = [
+        "63 0 send 0 0 = sent 1",
+        "63 0 send 0 5 = sent 1",
+        "1 0 try-recv 1 = lagged 1",
+    ];
+    let bus = r#""lead": 2, "calls": 9, "sent": 7, "handles": [0, 1], "lags": {}"#;
+    let state = r#""lead": 0, "calls": 3, "sent": null, "handles": [0, 1], "lags": {}"#;
+    let names = names(2, bus, state, "");
+    let found = account(&["broadcast 1", "watch 0"], &entries, &names);
+    let wanted = [
+        "receiver 1 lost 1 of at most 7 values of `bus` (capacity 1)",
+        "  before the window   the overwriting began",
+        "  call 3              told: lagged 1          actor 1  its last receive: none in the window",
+        "  lost: 1 value, overwritten before the window",
+    ];
+    assert_eq!(found.facts[0].text(), wanted);
+    assert_eq!(found.look, 3);
+    assert_eq!(found.unknown, ["12 calls came before the window"]);
+}
+
+#[test]
 fn the_report_begins_with_why_there_is_a_dump() {
     let text = Report::of(night()).text(None, false);
     let lines: Vec<_> = text.lines().take(4).collect();

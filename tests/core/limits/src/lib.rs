@@ -96,7 +96,11 @@ limits! {
     "Recording::call" to 1_048_576, 2 s: recorded::recording;
     "Recording::call, after its end" of 2_097_152, 2 s: recorded::unrecorded;
     "Lead::play" to 1_048_576, 8 s: recorded::window;
+    "Flight::of, stamps" to 2_305_843_009_213_693_952, 2 s: recorded::flight_stamps;
+    "Lead::play, stamps" to 4_611_686_018_427_387_904, 2 s: recorded::window_stamps;
     "Kept::lead, handles" to 65_534, 2 s: recorded::window_handles;
+    "Kept::lead, handles of the window" to 65_535, 2 s: recorded::window_creates;
+    "Kept::lead, sends" to 1_048_576, 4 s: recorded::lead_sends;
     "Cut::add" to 64, 2 s: recorded::cut_channels;
     "Cut::run, RunReader::read" of 1_048_576, 8 s: recorded::cut_calls;
     "Desk::open, actors" to 64, 2 s: desks::actors;
@@ -118,8 +122,10 @@ limits! {
     "read, a line" to 256, 2 s: texts::journal_line;
     "read, actors" to 64, 2 s: texts::journal_actors;
     "read, stamps" to 4_611_686_018_427_387_904, 2 s: texts::journal_stamps;
+    "session, a line" to 256, 2 s: texts::session_line;
     "session, bytes" to 268_435_456, 12 s: texts::session_bytes;
     "debug, bytes" to 268_435_456, 12 s: texts::debug_bytes;
+    "debug, searches" of 4_000, 3 s: texts::debug_searches;
     "debug, indexes" of 257, 2 s: texts::debug_indexes;
     "read_whole" to 268_435_456, 4 s: texts::bytes;
     "losses_of, losses" of 524_287, 2 s: found::losses;

@@ -277,3 +277,69 @@ pub fn window_handles(size: u64) -> bool {
         }
     }
 }
+
+/// A window of a channel that has created so many handles, half of them in the window. The lead creates one more.
+pub fn window_creates(size: u64) -> bool {
+    const BEFORE: u64 = 32_768;
+    let mut flight = Flight::open(Global, Spec::Watch(0), 524_288).unwrap();
+    for made in 2..size {
+        let call = ChanCall::W(WCall::CloneSender(0));
+        let new = ChanReply::W(WReply::New(made as u32));
+        assert_eq!(flight.call(0, made, call), Ok(new));
+    }
+    let mut kept = flight.kept(Global).unwrap();
+    kept.skip(Global, BEFORE - 2).unwrap();
+    match kept.lead(Global, 1, 0) {
+        Ok(lead) => {
+            let window = lead.play(BEFORE + 3).unwrap();
+            window.number(size as u32 - 1) == Some(size as u32)
+        }
+        Err(fault) => {
+            assert_eq!(fault, WindowFault::TooLong);
+            false
+        }
+    }
+}
+
+/// A lead of so many sends: the receiver has received none of them, and the one call of the window asks it.
+pub fn lead_sends(size: u64) -> bool {
+    let mut flight = Flight::open(Global, Spec::Broadcast(1), 524_288).unwrap();
+    for value in 1..=size {
+        assert_eq!(flight.call(0, value, send(value)), Ok(SENT));
+    }
+    let told = ChanReply::B(BReply::Lagged(size - 1));
+    let asked = flight.call(0, 0, ChanCall::B(BCall::TryRecv(1)));
+    assert_eq!(asked, Ok(told));
+    let mut kept = flight.kept(Global).unwrap();
+    kept.skip(Global, kept.len() - 1).unwrap();
+    match kept.lead(Global, 1, 0) {
+        Ok(lead) => lead.len() == size,
+        Err(fault) => {
+            assert_eq!(fault, WindowFault::TooLong);
+            false
+        }
+    }
+}
+
+/// A flight goes on from a recording whose one call has this stamp.
+pub fn flight_stamps(size: u64) -> bool {
+    let mut recording = Recording::open(Global, TWO[0]).unwrap();
+    recording.call(0, size - 1, send(1)).unwrap();
+    let flight = Flight::of(Global, &recording, 2);
+    is_taken(flight)
+}
+
+/// A window whose one call gets this stamp.
+pub fn window_stamps(size: u64) -> bool {
+    const STAMP: u64 = 1 << 61;
+    let mut flight = Flight::open(Global, TWO[0], 2).unwrap();
+    assert_eq!(flight.call(0, STAMP - 1, send(1)), Ok(SENT));
+    let lead = flight.kept(Global).unwrap().lead(Global, 1, 0).unwrap();
+    match lead.play(size - STAMP) {
+        Ok(window) => window.recording().len() == 1,
+        Err(fault) => {
+            assert_eq!(fault, WindowFault::TooLong);
+            false
+        }
+    }
+}

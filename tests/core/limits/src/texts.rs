@@ -174,3 +174,30 @@ pub fn debug_indexes(size: u64) -> bool {
     let first = lines.next().unwrap();
     output.lines().count() as u64 == size + 1 && lines.all(|line| line == first)
 }
+
+/// A session whose script has a comment of so many bytes.
+pub fn session_line(size: u64) -> bool {
+    let script = format!("broadcast 1\n#{}\n", "x".repeat(size as usize - 1));
+    let mut output = Vec::new(Global);
+    match session(Global, &mut script.as_bytes(), &mut output).unwrap() {
+        Outcome::Refused(fault) => {
+            assert_eq!(fault.kind, ScriptFaultKind::TooLong);
+            false
+        }
+        _ => true,
+    }
+}
+
+/// So many searches over a long run, each past all its entries, for two conditions in turn. Both are indexed: without an index each
+/// search looks at half a million entries.
+pub fn debug_searches(size: u64) -> bool {
+    const LONG: u64 = 500_000;
+    let run = run_of(LONG).unwrap();
+    let commands = "goto 0\nrforward channel 1\nrback actor 1\n".repeat(size as usize / 2);
+    let mut output = Vec::new(Global);
+    debug(Global, &run, &mut commands.as_bytes(), &mut output).unwrap();
+    let output = String::from_utf8(output.to_vec()).unwrap();
+    let hits = output.lines().filter(|line| line.starts_with("hit "));
+    let last = format!("hit {} of {}", LONG + 1, LONG + 1);
+    hits.filter(|line| *line == last).count() as u64 == size / 2
+}

@@ -129,6 +129,17 @@ fn new_debugger<V: Copy>(run: &Run<V>) -> Result<Debugger<V>, NoMemory> {
     }
 }
 
+/// A debugger that takes over a run, at place 0. A run that it gives back is as it was.
+fn taken_over<V: Copy>(run: Run<V>) -> Result<Debugger<V>, NoMemory> {
+    let length = run.len();
+    let run = match Debugger::of_run(Global, run) {
+        Ok(debugger) => return Ok(debugger),
+        Err(run) => run,
+    };
+    refused(run.len() == length);
+    Debugger::of_run(Global, run).map_err(|_run| NoMemory)
+}
+
 /// Makes the moves, with retries.
 fn walk<W: Walker>(walker: &mut W) -> Result<Vec<Result<(), OutOfRange>>, NoMemory> {
     let stands = walker.stands();
@@ -197,9 +208,9 @@ fn play_navigator_of<V: Payload>(run: &Run<V>, copies: bool) {
     play_navigator(navigator, Cond::Actor(1), copies)
 }
 
-/// Plays a debugger of a run, and an index of its entries on channel 0.
-fn play_debugger_of<V: Payload>(run: &Run<V>) {
-    match new_debugger(run) {
+/// Plays a debugger, and an index of its entries on channel 0.
+fn play_debugger<V: Payload>(debugger: Result<Debugger<V>, NoMemory>) {
+    match debugger {
         Ok(debugger) => {
             let cond = Cond::Channel(0);
             play_walker(Debugging { debugger, cond }, true)
@@ -212,15 +223,16 @@ fn play_debugger_of<V: Payload>(run: &Run<V>) {
 fn play_run<V: Payload>(run: &Run<V>) {
     play_navigator_of(run, true);
     play_navigator_of(run, false);
-    play_debugger_of(run)
+    play_debugger(new_debugger(run))
 }
 
-/// Plays walks over a run of these specs that is built for them.
+/// Plays walks over a run of these specs that is built for them, and then one that takes it over.
 fn play_built<V: Payload>(specs: &[Spec<V>]) {
     let Some(run) = build(specs) else {
         return say!("  no run");
     };
     play_run(&run);
+    play_debugger(taken_over(run));
 }
 
 /// Plays walks.

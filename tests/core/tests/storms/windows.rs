@@ -8,6 +8,7 @@ use proved::rw_recording::{
     WCall, WReply, Window, WindowFault,
 };
 use proved::rw_world::{Chan, open_channel};
+use std::mem;
 use support::Random;
 use support::fixtures::{to_broadcast, to_watch};
 
@@ -17,10 +18,20 @@ const CALLS: usize = 500;
 /// A call that was made: its actor, its stamp, the call and its reply.
 type Made = (u32, u64, ChanCall<u64>, ChanReply<u64>);
 
-/// A channel with its last calls, and the same channel with a plain list of the calls since its handles were numbered anew.
+/// The calls before the handles were numbered anew, the numbers that those which were alive had then, and how many there were.
+#[derive(Default)]
+struct Past {
+    all: Vec<Made>,
+    numbers: Vec<u32>,
+    made: u32,
+}
+
+/// A channel with its last calls, and the same channel with plain lists of the calls: those since its handles were numbered anew, and
+/// those of before.
 struct Played {
     flight: Flight,
     plain: Chan<u64>,
+    past: Option<Past>,
     all: Vec<Made>,
     last: u64,
 }
@@ -32,6 +43,7 @@ struct Told {
     entries: u64,
     dropped: u64,
     dozing: u64,
+    joined: u64,
 }
 
 fn any_call(random: &mut Random, is_watch: bool, handles: usize) -> ChanCall<u64> {
@@ -59,11 +71,22 @@ fn make(channel: &mut Chan<u64>, call: &ChanCall<u64>) -> ChanReply<u64> {
     channel.apply(call).0
 }
 
+impl Past {
+    /// The number that a handle had, or would have had.
+    fn number(&self, handle: u32) -> u32 {
+        match self.numbers.get(handle as usize) {
+            Some(number) => *number,
+            None => self.made + handle - self.numbers.len() as u32,
+        }
+    }
+}
+
 impl Played {
     fn open(spec: Spec<u64>, chunk: usize) -> Played {
         Played {
             flight: Flight::open(Global, spec, chunk).unwrap(),
             plain: open_channel(Global, &spec).unwrap(),
+            past: None,
             all: Vec::new(),
             last: 0,
         }
@@ -95,24 +118,35 @@ impl Played {
     }
 
     fn renumber(&mut self) {
+        let made = self.plain.made();
         let before = self.flight.renumber(Global).unwrap().unwrap();
         let plain = self.plain.renumber(Global).unwrap();
         assert!(before == plain);
         assert_eq!((self.flight.len(), self.flight.dropped()), (0, 0));
-        self.all.clear();
+        self.past = Some(Past {
+            all: mem::take(&mut self.all),
+            numbers: before.to_vec(),
+            made,
+        });
     }
 
-    /// Makes a window of the last calls, and compares it with them.
+    /// Makes a window of the last calls, and compares it with them. Calls of before are kept until a later one isn't.
     fn window(&self, random: &mut Random, told: &mut Told) {
+        let past = self.past.as_ref().filter(|_| self.flight.dropped() == 0);
+        let then = |handle| past.map_or(handle, |past| past.number(handle));
+        let earlier = past.map_or(&[][..], |past| &past.all);
+        let later = self.all.iter().map(|made| earlier_form(made, then));
+        let all: Vec<Made> = earlier.iter().copied().chain(later).collect();
+        told.joined += u64::from(past.is_some());
         let mut kept = self.flight.kept(Global).unwrap();
-        assert_eq!(kept.len() + kept.dropped(), self.all.len() as u64);
+        assert_eq!(kept.len() + kept.dropped(), all.len() as u64);
         let most = random.any() % 12;
         kept.settle(Global, most).unwrap();
         if random.below(3) == 0 {
             kept.skip(Global, random.any() % 20).unwrap();
         }
         let dropped = kept.dropped() as usize;
-        let made = &self.all[dropped..];
+        let made = &all[dropped..];
         assert_eq!(kept.len(), made.len() as u64);
         assert_eq!(kept.first_stamp(), made.first().map(|made| made.1));
         let spec = self.flight.spec();
@@ -127,7 +161,7 @@ impl Played {
                 told.entries += window.recording().len();
                 told.dozing += window.dozing().len() as u64;
                 compare(spec, &window, made, (clock, raised), most);
-                compare_state(&window, &self.flight, self.plain.made());
+                compare_state(&window, &self.flight, self.plain.made(), then);
             }
             Err(fault) => {
                 assert_eq!(fault, WindowFault::Dropped);
@@ -135,6 +169,17 @@ impl Played {
             }
         }
     }
+}
+
+/// A call by the numbers that handles had before.
+fn earlier_form(made: &Made, then: impl Fn(u32) -> u32) -> Made {
+    let (actor, stamp, call, reply) = made;
+    let reply = match reply {
+        ChanReply::B(BReply::New(handle)) => ChanReply::B(BReply::New(then(*handle))),
+        ChanReply::W(WReply::New(handle)) => ChanReply::W(WReply::New(then(*handle))),
+        other => *other,
+    };
+    (*actor, *stamp, call.with_handle(then(call.handle())), reply)
 }
 
 fn is_drop(call: &ChanCall<u64>) -> bool {
@@ -181,8 +226,8 @@ fn compare(spec: Spec<u64>, window: &Window, made: &[Made], stamps: (u64, u64), 
     assert!(reader.next_call().is_none());
 }
 
-/// Compares what the window shows at its end with the channel.
-fn compare_state(window: &Window, flight: &Flight, handles: u32) {
+/// Compares what the window shows at its end with the channel, whose handles the window knows by these numbers.
+fn compare_state(window: &Window, flight: &Flight, handles: u32, then: impl Fn(u32) -> u32) {
     let recording: &Recording = window.recording();
     for kind in [Kind::Sender, Kind::Receiver, Kind::Weak] {
         assert_eq!(recording.alive(kind), flight.alive(kind));
@@ -190,11 +235,11 @@ fn compare_state(window: &Window, flight: &Flight, handles: u32) {
     assert_eq!(recording.queued(), flight.queued());
     let is_dozing = |handle| window.dozing().iter().any(|it| it.receiver == handle);
     for handle in 0..handles {
-        let number = window.number(handle);
+        let number = window.number(then(handle));
         assert!(number.is_some() || flight.position(handle).is_none());
         let Some(number) = number else { continue };
         assert_eq!(recording.is_seen(number), flight.is_seen(handle));
-        if !is_dozing(handle) {
+        if !is_dozing(then(handle)) {
             assert_eq!(recording.unread(number), flight.unread(handle));
             let before = |position| position + window.sent_before();
             let position = recording.position(number).map(before);
@@ -230,9 +275,10 @@ fn windows_have_the_last_calls() {
             play(&mut random, Spec::Watch(value), &mut told);
         }
     }
+    assert!(told.joined > 0);
     println!(
-        "{} windows, {} entries, {} with calls by handles dropped before, {} dozing",
-        told.windows, told.entries, told.dropped, told.dozing
+        "{} windows, {} entries, {} with calls by handles dropped before, {} dozing, {} of before a renumbering",
+        told.windows, told.entries, told.dropped, told.dozing, told.joined
     );
 }
 
