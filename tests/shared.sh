@@ -9,6 +9,8 @@ export YOVANELUM_OUT=$out TMPDIR=$work PYTHONDONTWRITEBYTECODE=1
 # What cargo keeps to build an edited crate again takes half of a target folder, and debug info, which no test reads, two fifths of the time that
 # compiling takes.
 export CARGO_INCREMENTAL=0 CARGO_PROFILE_DEV_DEBUG=0
+# What is optimised in several parts is optimised again once each has seen the others, which takes a quarter more of the processors.
+export CARGO_PROFILE_RELEASE_CODEGEN_UNITS=1
 # Many tests start programs that panic or abort. Each would take ten times as long with a backtrace, which nobody reads.
 export RUST_BACKTRACE=0
 # The program that is tested.
@@ -132,7 +134,7 @@ install_tool() {
 # and so the crate would be compiled once more for each.
 make_wrapper() { printf '#!/bin/sh\nexec "$@" %s\n' "${*:2}" >"$1" && chmod +x "$1"; }
 
-# Has cargo install the program, as users do, and sets `installed` to its path.
+# Has cargo install the program, as users do but for the number of parts in which it is optimised, and sets `installed` to its path.
 install_program() {
   installed=$out/program/bin/ttd
   CARGO_NET_OFFLINE=true CARGO_TARGET_DIR=$out/source step cargo install -q --locked --path "$top/rust" --bin ttd --root "$out/program" --force

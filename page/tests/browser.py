@@ -1,4 +1,4 @@
-"""A headless Chromium, driven by the DevTools protocol over a pair of pipes."""
+"""A headless Chromium, or its engine alone, driven by the DevTools protocol over a pair of pipes."""
 import base64
 import itertools
 import json

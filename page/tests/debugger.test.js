@@ -14,17 +14,17 @@ function givesUp(before, after) {
     host_alloc: () => 8n,
     host_free: () => undefined,
     host_refused: () => counts.shift(),
-    ttd_found: () => NO_MEMORY,
+    ttd_salvage: () => NO_MEMORY,
   };
   return Object.assign(Object.create(Debugger.prototype), { exports, countAt: 0n, room: 1 << 30, roomAt: 16n });
 }
 
 test("memory that was refused is said", () => {
-  assert.throws(() => givesUp(0n, 1n).answer("ttd_found", [], []), { message: "no memory" });
+  assert.throws(() => givesUp(0n, 1n).answer("ttd_salvage", [], []), { message: "no memory" });
 });
 
 test("giving up without a refusal is another failure", () => {
-  assert.throws(() => givesUp(3n, 3n).answer("ttd_found", [], []), { message: "ttd_found gave up, and no memory was refused" });
+  assert.throws(() => givesUp(3n, 3n).answer("ttd_salvage", [], []), { message: "ttd_salvage gave up, and no memory was refused" });
 });
 
 // A debugger whose module says of each call what it was for, and fails at the calls of these numbers. A text that begins with an `x` has a fault.

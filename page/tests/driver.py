@@ -1,4 +1,4 @@
-"""What the drivers of browsers beside Chromium share, which speak WebDriver's commands in one way or another."""
+"""What the drivers of browsers share. Two speak WebDriver's commands, each in a way of its own."""
 import json
 import time
 

@@ -38,11 +38,11 @@ MEASURE = """(() => {
         if (isControl && !a.part.closest('#table-box, #answer-box, aside, #losses, #calls') && a.bottom > innerHeight + 0.5) faults.push(`${name(a.part)} is below the window`);
         for (let j = i + 1; j < boxes.length; j++) {
             const b = boxes[j];
-            if (a.part.contains(b.part) || b.part.contains(a.part)) continue;
             const width = Math.min(a.right, b.right) - Math.max(a.left, b.left), height = Math.min(a.bottom, b.bottom) - Math.max(a.top, b.top);
+            if (width <= 1.5 || height <= 3 || a.part.contains(b.part) || b.part.contains(a.part)) continue;
             // The layers of a drawing lie over each other, a loss may be a bar over the rows, and the head of a table over its rows.
             if (a.part.tagName === 'CANVAS' && b.part.tagName === 'CANVAS' || [a, b].some(it => it.part.id === 'peek' || it.part.closest('th'))) continue;
-            if (width > 1.5 && height > 3) faults.push(`${name(a.part)} and ${name(b.part)} lie over each other: ${width} x ${height}`);
+            faults.push(`${name(a.part)} and ${name(b.part)} lie over each other: ${width} x ${height}`);
         }
     }
     if (document.documentElement.scrollWidth > innerWidth || document.documentElement.scrollHeight > innerHeight) faults.push('the window scrolls');
@@ -52,7 +52,8 @@ MEASURE = """(() => {
 # The texts whose contrast to what is behind them is less than WCAG's AA wants.
 CONTRASTS = """(() => {
     const pen = new OffscreenCanvas(1, 1).getContext('2d', { willReadFrequently: true });
-    const rgba = colour => { pen.clearRect(0, 0, 1, 1); pen.fillStyle = colour; pen.fillRect(0, 0, 1, 1); return [...pen.getImageData(0, 0, 1, 1).data]; };
+    const drawn = colour => { pen.clearRect(0, 0, 1, 1); pen.fillStyle = colour; pen.fillRect(0, 0, 1, 1); return [...pen.getImageData(0, 0, 1, 1).data]; };
+    const known = new Map(), rgba = colour => known.get(colour) ?? known.set(colour, drawn(colour)).get(colour);
     const channel = part => (part /= 255) <= 0.03928 ? part / 12.92 : ((part + 0.055) / 1.055) ** 2.4;
     const light = ([red, green, blue]) => 0.2126 * channel(red) + 0.7152 * channel(green) + 0.0722 * channel(blue);
     const behind = part => {

@@ -120,7 +120,7 @@ def module_of_page():
 
 
 def refused_memory(tab, folder, journals):
-    """Where no memory is left, an export says so, changes nothing, and answers once there is some again."""
+    """Where no memory is left, an export says so, changes nothing, and answers once there is some again: the run is still held."""
     module = module_of_page()
     flags = lowering.Reader(dict(lowering.sections_of(module)[1])[lowering.MEMORIES])
     assert flags.number() == 1 and flags.number() == lowering.HAS_MOST, "the page's memory isn't one of 32 bits with a limit"
@@ -129,10 +129,12 @@ def refused_memory(tab, folder, journals):
         {in_browser("module", module)}
         const at = (await WebAssembly.instantiate(module)).instance.exports;
         const journal = new TextEncoder().encode(atob("{base64.b64encode(journals[63]).decode()}"));
-        const [text, out, count] = [journal.length, 1 << 20, 8].map(size => at.host_alloc(BigInt(size)));
+        const [text, held, out, count] = [journal.length, 8, 1 << 20, 8].map(size => at.host_alloc(BigInt(size)));
         new Uint8Array(at.memory.buffer, Number(text), journal.length).set(journal);
-        const ask = () => at.ttd_losses(text, BigInt(journal.length), out, 1n << 20n, count);
-        const before = ask(), none = at.host_refused(), taken = [];
+        new DataView(at.memory.buffer).setBigUint64(Number(held), 0n);
+        const isOpen = at.ttd_open(text, BigInt(journal.length), held) === 0;
+        const ask = () => at.ttd_held_losses(held, out, 1n << 20n, count);
+        const before = isOpen && ask(), none = at.host_refused(), taken = [];
         for (const it of [out, count]) new DataView(at.memory.buffer).setBigUint64(Number(it), 0n);
         for (let size = 2n ** 30n; size >= 16n; size /= 2n) {{
             for (let block = at.host_alloc(size); block !== 0n; block = at.host_alloc(size)) taken.push(block);

@@ -1,4 +1,4 @@
-"""What every browser has to do: it opens, walks and drops runs. A browser beside Chromium, which runs all tests, has a driver of its own."""
+"""What every browser has to do: it opens, walks and drops runs. Each has a driver of its own. All other tests run in Chromium's engine."""
 import json
 import re
 import sys

@@ -6,6 +6,7 @@ import native
 import opening
 import real_runs
 import runs
+from browser import Browser, Tab
 
 MANY = 30
 OPENINGS = 5
@@ -87,13 +88,21 @@ def processor_seconds(tab):
     return next(it["value"] for it in tab.call("Performance.getMetrics")["metrics"] if it["name"] == "ProcessTime")
 
 
-def most_megabytes():
-    """The most that a process of a page has had of memory."""
+def descends(process, ancestor):
+    """Whether a process was started by another, or by one that this has started."""
+    while process > 1 and process != ancestor:
+        with open(f"/proc/{process}/stat", encoding="utf-8") as stat:
+            process = int(stat.read().rsplit(")", 1)[1].split()[1])
+    return process == ancestor
+
+
+def most_megabytes(browser):
+    """The most that a process of a page of this browser has had of memory."""
     most = 0
     for name in filter(str.isdigit, os.listdir("/proc")):
         try:
             with open(f"/proc/{name}/cmdline", "rb") as words, open(f"/proc/{name}/status", encoding="utf-8") as status:
-                if b"--type=renderer" in words.read():
+                if b"--type=renderer" in words.read() and descends(int(name), browser.process.pid):
                     most = max([most, *(int(line.split()[1]) >> 10 for line in status if line.startswith("VmHWM"))])
         except OSError:
             continue
@@ -101,7 +110,9 @@ def most_megabytes():
 
 
 def pool(tab, folder, size, promised):
-    """What a pool takes of processors, which a busy machine changes less than the time that passes."""
+    """What a pool takes of processors, which a busy machine changes less than the time that passes, and of memory."""
+    tab.call("Page.addScriptToEvaluateOnNewDocument", source=WATCH)
+    tab.call("Performance.enable")
     path = opening.page_of(folder, "speed_pool.journal", real_runs.pool_of(*size)[0])
     jump = int(JUMP * size[2])
     waits = {
@@ -117,12 +128,11 @@ def pool(tab, folder, size, promised):
         wait()
         until = processor_seconds(tab)
         took[name], since = until - since, until
-    megabytes = most_megabytes()
+    megabytes = most_megabytes(tab.browser)
     print(f"  {size[2]:,} calls on {size[0]} channels, seconds of processors: " + ", ".join(f"{name} {taken:.2f}" for name, taken in took.items())
           + f"; {megabytes} MB")
     assert all(took[name] < PROCESSOR_MARGIN * most for name, most in promised.items()), "takes more of processors than it may"
-    # A shorter one may be in a process that has had longer ones.
-    assert size[2] < LONG or megabytes <= MOST_MEGABYTES, "takes more of memory than it may"
+    assert megabytes <= MOST_MEGABYTES, "takes more of memory than it may"
 
 
 def mean_step(tab):
@@ -155,6 +165,10 @@ def figures(tab, folder, journals):
               f"{100 * idle:.0f} % of the machine were idle")
         assert open_time < factor(idle) * most_open and max(near, far) < factor(idle) * most_step, "slower than it may be"
     first_paint(tab, folder)
-    tab.call("Performance.enable")
     for size, promised in POOLS.items():
-        pool(tab, folder, size, promised)
+        # In a browser of its own, since a process that has had another run has its memory too.
+        browser = Browser(tab.browser.program)
+        try:
+            pool(Tab(browser), folder, size, promised)
+        finally:
+            browser.close()
