@@ -18,7 +18,7 @@ const FEW: u32 = 128;
 const FIRST_LOOK: u32 = 64;
 
 /// How many dropped handles a chunk of the last calls takes out at least, unless it has fewer
-/// calls.
+/// calls. The lists of a chunk are allocated again then, so few aren't worth it.
 const LEAST_DROPPED: usize = 4_096;
 
 /// Who makes the calls that open a machine. They are not recorded.
