@@ -24,8 +24,10 @@ fn process_bytes() -> u64 {
     pages.parse::<u64>().unwrap() * PAGE
 }
 
-/// Returns how many bytes each of these parts takes, if they were made since the process had so many bytes.
-fn bytes_each(before: u64, parts: u64) -> u64 {
+/// Makes something of so many parts, and measures how many bytes each of them takes.
+fn bytes_each<T>(parts: u64, make: impl FnOnce() -> T) -> u64 {
+    let before = process_bytes();
+    let _made = make();
     process_bytes().saturating_sub(before) / parts
 }
 
@@ -43,9 +45,7 @@ fn ready_table() -> Table<u64> {
 
 /// Measures how many bytes a handle takes, in tables with room for as many as a channel makes.
 fn handle_bytes() -> u64 {
-    let before = process_bytes();
-    let _tables = tables();
-    bytes_each(before, MADE * MOST_HANDLES as u64)
+    bytes_each(MADE * MOST_HANDLES as u64, tables)
 }
 
 /// Opens broadcasts that are ready for as many calls as make handles.
@@ -62,9 +62,7 @@ fn ready_broadcast() -> Broadcast<u64> {
 
 /// Measures how many bytes a handle takes, in broadcasts that are ready for as many calls as make handles.
 fn broadcast_handle_bytes() -> u64 {
-    let before = process_bytes();
-    let _channels = broadcasts();
-    bytes_each(before, MADE * MOST_HANDLES as u64)
+    bytes_each(MADE * MOST_HANDLES as u64, broadcasts)
 }
 
 /// Makes rings of the greatest capacity.
@@ -76,9 +74,7 @@ fn rings() -> Vec<Ring<u64>> {
 
 /// Measures how many bytes a retained value takes, in rings of the greatest capacity.
 fn value_bytes() -> u64 {
-    let before = process_bytes();
-    let _rings = rings();
-    bytes_each(before, MADE * u64::from(MOST_CAPACITY))
+    bytes_each(MADE * u64::from(MOST_CAPACITY), rings)
 }
 
 /// Opens worlds of these channels.
@@ -91,9 +87,7 @@ static WATCHES: [Spec<u64>; MOST_CHANNELS] = [Spec::Watch(0); MOST_CHANNELS];
 
 /// Measures how many bytes a watch takes, in worlds of as many channels as a world has.
 fn channel_bytes() -> u64 {
-    let before = process_bytes();
-    let _worlds = worlds(&WATCHES);
-    bytes_each(before, WORLDS * MOST_CHANNELS as u64)
+    bytes_each(WORLDS * MOST_CHANNELS as u64, || worlds(&WATCHES))
 }
 
 /// Prints how many bytes were asked for, and how many were used.

@@ -7,7 +7,7 @@ use proved::rw_journal::{
     TakeFault, entries_of, merge_all, merge_calls, refusal_to_merge,
 };
 use proved::rw_law::Entry;
-use proved::rw_recording::{Cut, CutFault, Flight, Recording, RunReader, WindowFault};
+use proved::rw_recording::{Cut, CutFault, Flight, Kept, Recording, RunReader, WindowFault};
 use proved::rw_watch::{WCall, WReply};
 use proved::rw_world::{Chan, ChanCall, ChanReply, RowCall, Spec};
 use proved::{Global, Vec};
@@ -259,15 +259,20 @@ pub fn window(size: u64) -> bool {
     }
 }
 
-/// A window of a channel with so many handles. Two more are for those that a channel opens with.
-pub fn window_handles(size: u64) -> bool {
+/// The calls of a watch by which it has so many handles: it opens with two.
+fn kept_of(handles: u64) -> Kept {
     let mut flight = Flight::open(Global, Spec::Watch(0), 524_288).unwrap();
-    for made in 2..size {
+    for made in 2..handles {
         let call = ChanCall::W(WCall::CloneSender(0));
         let new = ChanReply::W(WReply::New(made as u32));
         assert_eq!(flight.call(0, made, call), Ok(new));
     }
-    let mut kept = flight.kept(Global).unwrap();
+    flight.kept(Global).unwrap()
+}
+
+/// A window of a channel with so many handles. Two more are for those that a channel opens with.
+pub fn window_handles(size: u64) -> bool {
+    let mut kept = kept_of(size);
     kept.skip(Global, kept.len()).unwrap();
     match kept.lead(Global, 1, 0) {
         Ok(lead) => lead.len() == size + 1,
@@ -281,13 +286,7 @@ pub fn window_handles(size: u64) -> bool {
 /// A window of a channel that has created so many handles, half of them in the window. The lead creates one more.
 pub fn window_creates(size: u64) -> bool {
     const BEFORE: u64 = 32_768;
-    let mut flight = Flight::open(Global, Spec::Watch(0), 524_288).unwrap();
-    for made in 2..size {
-        let call = ChanCall::W(WCall::CloneSender(0));
-        let new = ChanReply::W(WReply::New(made as u32));
-        assert_eq!(flight.call(0, made, call), Ok(new));
-    }
-    let mut kept = flight.kept(Global).unwrap();
+    let mut kept = kept_of(size);
     kept.skip(Global, BEFORE - 2).unwrap();
     match kept.lead(Global, 1, 0) {
         Ok(lead) => {

@@ -16,36 +16,14 @@ pub struct Called {
     pub was_called: bool,
 }
 
-/// The reply of a call that may have made a sender of a broadcast.
-fn b_sender_made(made: Made<BTx, BReply<u64>>) -> (BReply<u64>, Option<Hand>) {
-    match made {
-        Made::New(sender) => (BReply::New(sender.number()), Some(Hand::BTx(sender))),
-        Made::Refused(reply) => (reply, None),
-    }
-}
-
-/// The reply of a call that may have made a receiver of a broadcast.
-fn b_receiver_made(made: Made<BRx, BReply<u64>>) -> (BReply<u64>, Option<Hand>) {
-    match made {
-        Made::New(receiver) => (BReply::New(receiver.number()), Some(Hand::BRx(receiver))),
-        Made::Refused(reply) => (reply, None),
-    }
-}
-
-/// The reply of a call that may have made a sender of a watch.
-fn w_sender_made(made: Made<WTx, WReply<u64>>) -> (WReply<u64>, Option<Hand>) {
-    match made {
-        Made::New(sender) => (WReply::New(sender.number()), Some(Hand::WTx(sender))),
-        Made::Refused(reply) => (reply, None),
-    }
-}
-
-/// The reply of a call that may have made a receiver of a watch.
-fn w_receiver_made(made: Made<WRx, WReply<u64>>) -> (WReply<u64>, Option<Hand>) {
-    match made {
-        Made::New(receiver) => (WReply::New(receiver.number()), Some(Hand::WRx(receiver))),
-        Made::Refused(reply) => (reply, None),
-    }
+/// What a call returned that may have made a handle: its reply, and the handle.
+macro_rules! made {
+    ($made:expr, $handle:ident, $reply:ident) => {
+        match $made {
+            Made::New(handle) => ($reply::New(handle.number()), Some(Hand::$handle(handle))),
+            Made::Refused(reply) => (reply, None),
+        }
+    };
 }
 
 /// A call by a sender of a broadcast. A call of another kind of handle is refused with `NoChannel`.
@@ -55,15 +33,15 @@ fn by_b_sender(
     sender: &BTx,
     call: BCall<u64>,
 ) -> Result<(BReply<u64>, Option<Hand>), DeskFault> {
-    let reply = match call {
-        BCall::Send(_, value) => desk.b_send(&RT, pass, sender, value),
-        BCall::SenderLen(_) => desk.b_sender_len(&RT, pass, sender),
-        BCall::ReceiverCount(_) => desk.b_receiver_count(&RT, pass, sender),
-        BCall::Subscribe(_) => return Ok(b_receiver_made(desk.b_subscribe(&RT, pass, sender)?)),
-        BCall::CloneSender(_) => return Ok(b_sender_made(desk.b_clone_sender(&RT, pass, sender)?)),
-        _ => Err(DeskFault::NoChannel),
+    let answer = match call {
+        BCall::Send(_, value) => (desk.b_send(&RT, pass, sender, value)?, None),
+        BCall::SenderLen(_) => (desk.b_sender_len(&RT, pass, sender)?, None),
+        BCall::ReceiverCount(_) => (desk.b_receiver_count(&RT, pass, sender)?, None),
+        BCall::Subscribe(_) => made!(desk.b_subscribe(&RT, pass, sender)?, BRx, BReply),
+        BCall::CloneSender(_) => made!(desk.b_clone_sender(&RT, pass, sender)?, BTx, BReply),
+        _ => return Err(DeskFault::NoChannel),
     };
-    Ok((reply?, None))
+    Ok(answer)
 }
 
 /// A call by a receiver of a broadcast.
@@ -73,16 +51,14 @@ fn by_b_receiver(
     receiver: &BRx,
     call: BCall<u64>,
 ) -> Result<(BReply<u64>, Option<Hand>), DeskFault> {
-    let reply = match call {
-        BCall::TryRecv(_) => desk.b_try_recv(&RT, pass, receiver),
-        BCall::Recv(_) => desk.b_recv(&RT, pass, receiver),
-        BCall::ReceiverLen(_) => desk.b_receiver_len(&RT, pass, receiver),
-        BCall::Resubscribe(_) => {
-            return Ok(b_receiver_made(desk.b_resubscribe(&RT, pass, receiver)?));
-        }
-        _ => Err(DeskFault::NoChannel),
+    let answer = match call {
+        BCall::TryRecv(_) => (desk.b_try_recv(&RT, pass, receiver)?, None),
+        BCall::Recv(_) => (desk.b_recv(&RT, pass, receiver)?, None),
+        BCall::ReceiverLen(_) => (desk.b_receiver_len(&RT, pass, receiver)?, None),
+        BCall::Resubscribe(_) => made!(desk.b_resubscribe(&RT, pass, receiver)?, BRx, BReply),
+        _ => return Err(DeskFault::NoChannel),
     };
-    Ok((reply?, None))
+    Ok(answer)
 }
 
 /// A call by a sender of a watch that takes no closure.
@@ -92,18 +68,18 @@ fn by_w_sender(
     sender: &WTx,
     call: WCall<u64>,
 ) -> Result<(WReply<u64>, Option<Hand>), DeskFault> {
-    let reply = match call {
-        WCall::Send(_, value) => desk.w_send(&RT, pass, sender, value),
-        WCall::SendReplace(_, value) => desk.w_send_replace(&RT, pass, sender, value),
-        WCall::Borrow(_) => desk.w_peek(&RT, pass, sender),
-        WCall::ReceiverCount(_) => desk.w_receiver_count(&RT, pass, sender),
-        WCall::IsClosed(_) => desk.w_is_closed(&RT, pass, sender),
-        WCall::AwaitClosed(_) => desk.w_closed(&RT, pass, sender),
-        WCall::Subscribe(_) => return Ok(w_receiver_made(desk.w_subscribe(&RT, pass, sender)?)),
-        WCall::CloneSender(_) => return Ok(w_sender_made(desk.w_clone_sender(&RT, pass, sender)?)),
-        _ => Err(DeskFault::NoChannel),
+    let answer = match call {
+        WCall::Send(_, value) => (desk.w_send(&RT, pass, sender, value)?, None),
+        WCall::SendReplace(_, value) => (desk.w_send_replace(&RT, pass, sender, value)?, None),
+        WCall::Borrow(_) => (desk.w_peek(&RT, pass, sender)?, None),
+        WCall::ReceiverCount(_) => (desk.w_receiver_count(&RT, pass, sender)?, None),
+        WCall::IsClosed(_) => (desk.w_is_closed(&RT, pass, sender)?, None),
+        WCall::AwaitClosed(_) => (desk.w_closed(&RT, pass, sender)?, None),
+        WCall::Subscribe(_) => made!(desk.w_subscribe(&RT, pass, sender)?, WRx, WReply),
+        WCall::CloneSender(_) => made!(desk.w_clone_sender(&RT, pass, sender)?, WTx, WReply),
+        _ => return Err(DeskFault::NoChannel),
     };
-    Ok((reply?, None))
+    Ok(answer)
 }
 
 /// A call by a receiver of a watch.
@@ -113,19 +89,17 @@ fn by_w_receiver(
     receiver: &WRx,
     call: WCall<u64>,
 ) -> Result<(WReply<u64>, Option<Hand>), DeskFault> {
-    let reply = match call {
-        WCall::Borrow(_) => desk.w_borrow(&RT, pass, receiver),
-        WCall::Update(_) => desk.w_update(&RT, pass, receiver),
-        WCall::HasChanged(_) => desk.w_has_changed(&RT, pass, receiver),
-        WCall::Changed(_) => desk.w_changed(&RT, pass, receiver),
-        WCall::MarkChanged(_) => desk.w_mark_changed(&RT, pass, receiver),
-        WCall::MarkUnchanged(_) => desk.w_mark_unchanged(&RT, pass, receiver),
-        WCall::CloneReceiver(_) => {
-            return Ok(w_receiver_made(desk.w_clone_receiver(&RT, pass, receiver)?));
-        }
-        _ => Err(DeskFault::NoChannel),
+    let answer = match call {
+        WCall::Borrow(_) => (desk.w_borrow(&RT, pass, receiver)?, None),
+        WCall::Update(_) => (desk.w_update(&RT, pass, receiver)?, None),
+        WCall::HasChanged(_) => (desk.w_has_changed(&RT, pass, receiver)?, None),
+        WCall::Changed(_) => (desk.w_changed(&RT, pass, receiver)?, None),
+        WCall::MarkChanged(_) => (desk.w_mark_changed(&RT, pass, receiver)?, None),
+        WCall::MarkUnchanged(_) => (desk.w_mark_unchanged(&RT, pass, receiver)?, None),
+        WCall::CloneReceiver(_) => made!(desk.w_clone_receiver(&RT, pass, receiver)?, WRx, WReply),
+        _ => return Err(DeskFault::NoChannel),
     };
-    Ok((reply?, None))
+    Ok(answer)
 }
 
 /// Stores a value by a closure that returns nothing, with which the receivers are notified. Also whether the closure was called.
@@ -159,10 +133,13 @@ fn modify_silently(
     (reply, was_called)
 }
 
-/// What a call of a broadcast returned.
-fn of_broadcast(answer: Result<(BReply<u64>, Option<Hand>), DeskFault>) -> Called {
+/// What a call returned that takes no closure.
+fn called<R>(
+    answer: Result<(R, Option<Hand>), DeskFault>,
+    reply: fn(R) -> ChanReply<u64>,
+) -> Called {
     let (reply, made) = match answer {
-        Ok((reply, made)) => (Ok(ChanReply::B(reply)), made),
+        Ok((answer, made)) => (Ok(reply(answer)), made),
         Err(fault) => (Err(fault), None),
     };
     Called {
@@ -172,29 +149,12 @@ fn of_broadcast(answer: Result<(BReply<u64>, Option<Hand>), DeskFault>) -> Calle
     }
 }
 
-/// What a call of a watch returned that takes no closure.
-fn of_watch(answer: Result<(WReply<u64>, Option<Hand>), DeskFault>) -> Called {
-    let (reply, made) = match answer {
-        Ok((reply, made)) => (Ok(ChanReply::W(reply)), made),
-        Err(fault) => (Err(fault), None),
-    };
-    Called {
-        reply,
-        made,
-        was_called: false,
-    }
-}
-
-/// What a call of a watch returned that takes a closure.
+/// What a call returned that takes a closure.
 fn of_closure((answer, was_called): (Result<WReply<u64>, DeskFault>, bool)) -> Called {
-    let reply = match answer {
-        Ok(reply) => Ok(ChanReply::W(reply)),
-        Err(fault) => Err(fault),
-    };
+    let answer = answer.map(|reply| (reply, None));
     Called {
-        reply,
-        made: None,
         was_called,
+        ..called(answer, ChanReply::W)
     }
 }
 
@@ -203,10 +163,10 @@ fn of_closure((answer, was_called): (Result<WReply<u64>, DeskFault>, bool)) -> C
 pub fn call_by(desk: &Desk<u64>, pass: &mut Pass<u64>, hand: &Hand, call: ChanCall<u64>) -> Called {
     match (hand, call) {
         (Hand::BTx(sender), ChanCall::B(call)) => {
-            of_broadcast(by_b_sender(desk, pass, sender, call))
+            called(by_b_sender(desk, pass, sender, call), ChanReply::B)
         }
         (Hand::BRx(receiver), ChanCall::B(call)) => {
-            of_broadcast(by_b_receiver(desk, pass, receiver, call))
+            called(by_b_receiver(desk, pass, receiver, call), ChanReply::B)
         }
         (
             Hand::WTx(sender),
@@ -217,12 +177,25 @@ pub fn call_by(desk: &Desk<u64>, pass: &mut Pass<u64>, hand: &Hand, call: ChanCa
         (Hand::WTx(sender), ChanCall::W(WCall::Modify { value, .. })) => {
             of_closure(modify_silently(desk, pass, sender, value))
         }
-        (Hand::WTx(sender), ChanCall::W(call)) => of_watch(by_w_sender(desk, pass, sender, call)),
-        (Hand::WRx(receiver), ChanCall::W(call)) => {
-            of_watch(by_w_receiver(desk, pass, receiver, call))
+        (Hand::WTx(sender), ChanCall::W(call)) => {
+            called(by_w_sender(desk, pass, sender, call), ChanReply::W)
         }
-        _ => of_watch(Err(DeskFault::NoChannel)),
+        (Hand::WRx(receiver), ChanCall::W(call)) => {
+            called(by_w_receiver(desk, pass, receiver, call), ChanReply::W)
+        }
+        _ => called(Err(DeskFault::NoChannel), ChanReply::W),
     }
+}
+
+/// What the drop of a handle returned. Beside a fault the handle comes back.
+fn dropped<H, R>(
+    answer: Result<R, (DeskFault, H)>,
+    reply: fn(R) -> ChanReply<u64>,
+    hand: fn(H) -> Hand,
+) -> Result<ChanReply<u64>, (DeskFault, Hand)> {
+    answer
+        .map(reply)
+        .map_err(|(fault, handle)| (fault, hand(handle)))
 }
 
 /// Drops a handle in its channel. Beside a fault it comes back.
@@ -231,23 +204,12 @@ pub fn drop_hand(
     pass: &mut Pass<u64>,
     hand: Hand,
 ) -> Result<ChanReply<u64>, (DeskFault, Hand)> {
+    use ChanReply::{B, W};
     match hand {
-        Hand::BTx(sender) => match desk.b_drop_sender(&RT, pass, sender) {
-            Ok(reply) => Ok(ChanReply::B(reply)),
-            Err((fault, sender)) => Err((fault, Hand::BTx(sender))),
-        },
-        Hand::BRx(receiver) => match desk.b_drop_receiver(&RT, pass, receiver) {
-            Ok(reply) => Ok(ChanReply::B(reply)),
-            Err((fault, receiver)) => Err((fault, Hand::BRx(receiver))),
-        },
-        Hand::WTx(sender) => match desk.w_drop_sender(&RT, pass, sender) {
-            Ok(reply) => Ok(ChanReply::W(reply)),
-            Err((fault, sender)) => Err((fault, Hand::WTx(sender))),
-        },
-        Hand::WRx(receiver) => match desk.w_drop_receiver(&RT, pass, receiver) {
-            Ok(reply) => Ok(ChanReply::W(reply)),
-            Err((fault, receiver)) => Err((fault, Hand::WRx(receiver))),
-        },
+        Hand::BTx(sender) => dropped(desk.b_drop_sender(&RT, pass, sender), B, Hand::BTx),
+        Hand::BRx(receiver) => dropped(desk.b_drop_receiver(&RT, pass, receiver), B, Hand::BRx),
+        Hand::WTx(sender) => dropped(desk.w_drop_sender(&RT, pass, sender), W, Hand::WTx),
+        Hand::WRx(receiver) => dropped(desk.w_drop_receiver(&RT, pass, receiver), W, Hand::WRx),
     }
 }
 

@@ -1,6 +1,6 @@
 //! Comparisons of channels whose handles have other numbers.
 
-use crate::met::{TRIES, refused, say};
+use crate::met::{say, tried};
 use crate::refusing::paused;
 use proved::Global;
 use proved::rw_broadcast::Broadcast;
@@ -8,41 +8,37 @@ use proved::rw_handles::Kind;
 use proved::rw_law::NoMemory;
 use proved::rw_watch::Watch;
 
-/// Asks until it is answered. After a refusal the channels have to be as they were.
-fn asked(
-    mut compare: impl FnMut() -> Result<bool, NoMemory>,
-    is_kept: impl Fn() -> bool,
-) -> Result<bool, NoMemory> {
-    for _ in 0..TRIES {
-        match compare() {
-            Ok(alike) => return Ok(alike),
-            Err(NoMemory) => refused(is_kept()),
-        }
+/// Compares two channels whose handles have the same numbers, and others.
+fn compare<C>(
+    what: &str,
+    both: [C; 2],
+    kind: fn(&C, u32) -> Option<Kind>,
+    is_alike: fn(&C, &C, &[u32]) -> Result<bool, NoMemory>,
+) {
+    for numbers in [[0, 1], [1, 0]] {
+        let alike = tried(
+            both.each_ref(),
+            |both| both.map(|it| [0, 1].map(|handle| kind(it, handle))),
+            |[here, there]| is_alike(here, there, &numbers),
+        );
+        say!("{what} by {numbers:?}: {alike:?}");
     }
-    Err(NoMemory)
+    paused(|| drop(both))
 }
 
 /// Plays all of these.
 pub fn play() {
-    let open = || paused(|| Broadcast::open(Global, 4).unwrap());
-    let (here, there) = (open(), open());
-    let kinds = [Some(Kind::Sender), Some(Kind::Receiver)];
-    for numbers in [[0, 1], [1, 0]] {
-        let alike = asked(
-            || here.is_alike(Global, &there, &numbers),
-            || [&here, &there].map(|it| [0, 1].map(|h| it.kind(h))) == [kinds; 2],
-        );
-        say!("broadcasts by {numbers:?}: {alike:?}");
-    }
-    paused(|| drop((here, there)));
-    let open = || paused(|| Watch::open(Global, 5).unwrap());
-    let (here, there) = (open(), open());
-    for numbers in [[0, 1], [1, 0]] {
-        let alike = asked(
-            || here.is_alike(Global, &there, &numbers),
-            || [&here, &there].map(|it| [0, 1].map(|h| it.kind(h))) == [kinds; 2],
-        );
-        say!("watches by {numbers:?}: {alike:?}");
-    }
-    paused(|| drop((here, there)))
+    let broadcast = || Broadcast::open(Global, 4).unwrap();
+    let both = paused(|| [broadcast(), broadcast()]);
+    compare(
+        "broadcasts",
+        both,
+        Broadcast::kind,
+        |here, there, numbers| here.is_alike(Global, there, numbers),
+    );
+    let watch = || Watch::open(Global, 5).unwrap();
+    let both = paused(|| [watch(), watch()]);
+    compare("watches", both, Watch::kind, |here, there, numbers| {
+        here.is_alike(Global, there, numbers)
+    });
 }

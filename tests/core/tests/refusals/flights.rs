@@ -1,6 +1,6 @@
 //! Channels with their last calls, and windows of these: what is refused memory leaves a flight and its kept calls as they were.
 
-use crate::met::{TRIES, refused, say};
+use crate::met::{TRIES, made, refused, say, tried};
 use crate::refusing::paused;
 use proved::Global;
 use proved::rw_law::NoMemory;
@@ -8,6 +8,7 @@ use proved::rw_recording::{
     BCall, ChanCall, Flight, Kept, Lead, OpenFault, Recording, Spec, TakeFault, WCall, Window,
     WindowFault,
 };
+use std::fmt::Debug;
 
 /// How many calls make a chunk full: more than are made, since a refused copy of the channel would leave one chunk more.
 const CHUNK: usize = 16;
@@ -36,26 +37,16 @@ static CHANGES: [ChanCall<u64>; 7] = [
     ChanCall::W(WCall::CloneReceiver(2)),
 ];
 
-/// Asks for something again and again, where memory for it is refused and `is_same` holds then.
-fn met<T>(mut ask: impl FnMut() -> Option<T>, is_same: impl Fn() -> bool) -> Option<T> {
-    for _ in 0..TRIES {
-        match ask() {
-            Some(made) => return Some(made),
-            None => refused(is_same()),
-        }
-    }
-    None
+/// Asserts that a fault is this one, which says that memory was refused.
+fn no_memory<F: Debug + PartialEq>(fault: F, wanted: F) -> NoMemory {
+    assert_eq!(fault, wanted);
+    NoMemory
 }
 
-fn open(spec: Spec<u64>) -> Option<Flight> {
-    let ask = || match Flight::open(Global, spec, CHUNK) {
-        Ok(flight) => Some(flight),
-        Err(fault) => {
-            assert_eq!(fault, OpenFault::NoMemory);
-            None
-        }
-    };
-    met(ask, || true)
+fn open(spec: Spec<u64>) -> Result<Flight, NoMemory> {
+    made(|| {
+        Flight::open(Global, spec, CHUNK).map_err(|fault| no_memory(fault, OpenFault::NoMemory))
+    })
 }
 
 fn call(flight: &mut Flight, call: ChanCall<u64>) {
@@ -80,60 +71,48 @@ fn last_calls(flight: &Flight) -> Kept {
 
 /// Copies the kept calls, and forgets some.
 fn play_kept(flight: &Flight) {
-    let kept = met(|| flight.kept(Global).ok(), || true);
-    let Some(mut kept) = kept else { return };
+    let kept = made(|| flight.kept(Global));
+    let Ok(mut kept) = kept else { return };
     say!("kept: {} of {}", kept.len(), kept.len() + kept.dropped());
     for skips in [false, true] {
-        for _ in 0..TRIES {
-            let before = (kept.len(), kept.dropped(), kept.first_stamp());
-            let done = if skips {
-                kept.skip(Global, 1)
-            } else {
-                kept.settle(Global, 0)
-            };
-            let now = (kept.len(), kept.dropped(), kept.first_stamp());
-            match done {
-                Ok(()) => {
-                    say!("  {now:?}");
-                    break;
+        let done = tried(
+            &mut kept,
+            |kept| (kept.len(), kept.dropped(), kept.first_stamp()),
+            |kept| {
+                if skips {
+                    kept.skip(Global, 1)
+                } else {
+                    kept.settle(Global, 0)
                 }
-                Err(NoMemory) => refused(now == before),
-            }
+            },
+        );
+        if done.is_ok() {
+            say!("  {:?}", (kept.len(), kept.dropped(), kept.first_stamp()));
         }
     }
     paused(|| drop(kept))
 }
 
-fn lead_of(kept: Kept) -> Option<Lead> {
-    match kept.lead(Global, 63, 0) {
-        Ok(lead) => Some(lead),
-        Err(fault) => {
-            assert_eq!(fault, WindowFault::NoMemory);
-            None
-        }
-    }
+fn lead_of(kept: Kept) -> Result<Lead, NoMemory> {
+    kept.lead(Global, 63, 0)
+        .map_err(|fault| no_memory(fault, WindowFault::NoMemory))
 }
 
-fn window_of(lead: Lead) -> Option<Window> {
+fn window_of(lead: Lead) -> Result<Window, NoMemory> {
     let last = lead.last_stamp();
-    match lead.play(last) {
-        Ok(window) => Some(window),
-        Err(fault) => {
-            assert_eq!(fault, WindowFault::NoMemory);
-            None
-        }
-    }
+    lead.play(last)
+        .map_err(|fault| no_memory(fault, WindowFault::NoMemory))
 }
 
 /// Makes a window of the kept calls.
 fn play_window(flight: &Flight) {
-    let lead = met(|| lead_of(last_calls(flight)), || true);
-    let Some(lead) = lead else { return };
+    let lead = made(|| lead_of(last_calls(flight)));
+    let Ok(lead) = lead else { return };
     say!("lead: {} entries", lead.len());
     paused(|| drop(lead));
     let whole = || paused(|| lead_of(last_calls(flight)).unwrap());
-    let window = met(|| window_of(whole()), || true);
-    let Some(window) = window else { return };
+    let window = made(|| window_of(whole()));
+    let Ok(window) = window else { return };
     let numbers = [0, 1, 2, 3].map(|handle| window.number(handle));
     say!("window: {} entries, {numbers:?}", window.recording().len());
     paused(|| drop(window))
@@ -141,18 +120,14 @@ fn play_window(flight: &Flight) {
 
 /// Numbers the handles anew.
 fn play_renumbering(flight: &mut Flight) {
-    for _ in 0..TRIES {
-        let before = (flight.len(), flight.dropped(), flight.made());
-        match flight.renumber(Global) {
-            Ok(numbers) => {
-                say!("renumbered: {:?}", numbers.as_deref());
-                paused(|| drop(numbers));
-                break;
-            }
-            Err(NoMemory) => {
-                refused((flight.len(), flight.dropped(), flight.made()) == before);
-            }
-        }
+    let numbers = tried(
+        flight,
+        |flight| (flight.len(), flight.dropped(), flight.made()),
+        |flight| flight.renumber(Global),
+    );
+    if let Ok(numbers) = numbers {
+        say!("renumbered: {:?}", numbers.as_deref());
+        paused(|| drop(numbers));
     }
 }
 
@@ -165,8 +140,10 @@ fn play_going_on(spec: Spec<u64>, calls: &[ChanCall<u64>]) {
         }
         recording
     });
-    let flight = met(|| Flight::of(Global, &recording, CHUNK).ok(), || true);
-    if let Some(flight) = &flight {
+    let flight = made(|| {
+        Flight::of(Global, &recording, CHUNK).map_err(|fault| no_memory(fault, TakeFault::NoMemory))
+    });
+    if let Ok(flight) = &flight {
         say!("gone on: {} of {}", flight.len(), recording.len());
     }
     paused(|| drop((recording, flight)))
@@ -177,7 +154,7 @@ pub fn play() {
     let channels: [(Spec<u64>, &[ChanCall<u64>]); 2] =
         [(Spec::Broadcast(2), &SENDS), (Spec::Watch(5), &CHANGES)];
     for (spec, calls) in channels {
-        let Some(mut flight) = open(spec) else { return };
+        let Ok(mut flight) = open(spec) else { return };
         for each in calls {
             call(&mut flight, *each);
         }

@@ -1,6 +1,6 @@
 //! Hand-offs: opened, the book taken, called and given back, two seats that meet, and closed.
 
-use crate::met::{TRIES, refused, say};
+use crate::met::{made, refused, say};
 use crate::passes::{open_book, readings_of};
 use proved::Vec;
 use proved::rw_broadcast::BCall;
@@ -29,13 +29,7 @@ fn open() -> Result<Opened, NoMemory> {
 
 /// The same, with retries.
 fn new_hand_off() -> Result<Opened, NoMemory> {
-    for _ in 0..TRIES {
-        match open() {
-            Ok(opened) => return Ok(opened),
-            Err(NoMemory) => refused(true),
-        }
-    }
-    Err(NoMemory)
+    made(open)
 }
 
 /// Sends a value, and asks for it again. At a refusal the book is as before.

@@ -1,6 +1,6 @@
 //! Tables, rings and channels: opened, made ready, and called.
 
-use crate::met::{TRIES, refused, say};
+use crate::met::{made, say, tried};
 use crate::readings::Shows;
 use proved::Global;
 use proved::rw_broadcast::{BCall, Broadcast};
@@ -18,17 +18,14 @@ pub const MUCH: u64 = 1_000;
 
 /// Makes a machine ready for a few calls.
 fn make_ready<M: Shows>(machine: &mut M) -> Result<(), NoMemory> {
-    let readings = machine.readings();
-    for _ in 0..TRIES {
-        if machine.weight() > MUCH {
-            return Err(NoMemory);
-        }
-        match machine.ready(AHEAD) {
-            Ok(()) => return Ok(()),
-            Err(NoMemory) => refused(machine.readings() == readings),
-        }
+    if machine.weight() > MUCH {
+        return Err(NoMemory);
     }
-    Err(NoMemory)
+    tried(
+        machine,
+        |machine| machine.readings(),
+        |machine| machine.ready(AHEAD),
+    )
 }
 
 /// Makes a call on a machine, which is made ready before.
@@ -53,13 +50,7 @@ where
 
 /// A machine, as it is opened.
 fn new_machine<M: Shows>() -> Result<M, NoMemory> {
-    for _ in 0..TRIES {
-        match M::open() {
-            Ok(machine) => return Ok(machine),
-            Err(NoMemory) => refused(true),
-        }
-    }
-    Err(NoMemory)
+    made(M::open)
 }
 
 /// Opens a machine, and makes calls on it.
@@ -75,50 +66,25 @@ where
 
 /// A table of handles.
 fn new_table() -> Result<Table<u64>, NoMemory> {
-    for _ in 0..TRIES {
-        match Table::new(Global) {
-            Ok(table) => return Ok(table),
-            Err(NoMemory) => refused(true),
-        }
-    }
-    Err(NoMemory)
+    made(|| Table::new(Global))
 }
 
 /// A table of a sender and a receiver.
 fn table_of_two() -> Result<Table<u64>, NoMemory> {
-    for _ in 0..TRIES {
-        match Table::of_two(Global, 3, 4) {
-            Ok(table) => return Ok(table),
-            Err(NoMemory) => refused(true),
-        }
-    }
-    Err(NoMemory)
+    made(|| Table::of_two(Global, 3, 4))
 }
 
 /// A ring of this capacity.
 fn new_ring() -> Result<Ring<u64>, NoMemory> {
-    for _ in 0..TRIES {
-        match Ring::new(Global, 4) {
-            Ok(ring) => return Ok(ring),
-            Err(NoMemory) => refused(true),
-        }
-    }
-    Err(NoMemory)
+    made(|| Ring::new(Global, 4))
 }
 
 /// Makes room in a table for so many handles.
 fn ready_table(table: &mut Table<u64>, handles: u64) -> Result<(), NoMemory> {
-    let made = table.made();
-    for _ in 0..TRIES {
-        if u64::from(table.made()) > MUCH || handles > MUCH {
-            return Err(NoMemory);
-        }
-        match table.ready(handles) {
-            Ok(()) => return Ok(()),
-            Err(NoMemory) => refused(table.made() == made),
-        }
+    if u64::from(table.made()) > MUCH || handles > MUCH {
+        return Err(NoMemory);
     }
-    Err(NoMemory)
+    tried(table, |table| table.made(), |table| table.ready(handles))
 }
 
 /// Makes a handle where a table has room for it, and says its number.

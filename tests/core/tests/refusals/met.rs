@@ -1,6 +1,7 @@
 //! What is kept of the refusals that a part met, and what it said.
 
 use crate::refusing::paused;
+use proved::rw_law::NoMemory;
 use std::cell::{Cell, RefCell};
 use std::fmt::{Arguments, Write};
 
@@ -16,6 +17,27 @@ thread_local! {
 pub fn refused(kept: bool) {
     assert!(kept, "something was lost at a refusal");
     MET.set(MET.get() + 1);
+}
+
+/// Asks until memory isn't refused, [`TRIES`] times at most. At a refusal the thing that is asked shows what it showed before.
+pub fn tried<M, S: PartialEq, T>(
+    mut asked: M,
+    shown: impl Fn(&M) -> S,
+    mut ask: impl FnMut(&mut M) -> Result<T, NoMemory>,
+) -> Result<T, NoMemory> {
+    let before = shown(&asked);
+    for _ in 0..TRIES {
+        match ask(&mut asked) {
+            Ok(answer) => return Ok(answer),
+            Err(NoMemory) => refused(shown(&asked) == before),
+        }
+    }
+    Err(NoMemory)
+}
+
+/// The same, where nothing is there before.
+pub fn made<T>(mut make: impl FnMut() -> Result<T, NoMemory>) -> Result<T, NoMemory> {
+    tried((), |()| (), |()| make())
 }
 
 /// Appends a text to what is said, whose memory isn't refused.

@@ -1,6 +1,6 @@
 //! Passes: calls on the book of a channel, each with its receipt.
 
-use crate::met::{TRIES, refused, say};
+use crate::met::{made, refused, say};
 use crate::readings::{SPECS, counted};
 use proved::Global;
 use proved::rw_broadcast::BCall;
@@ -56,16 +56,10 @@ pub fn open_book<V: Copy>(spec: &Spec<V>) -> Result<Book<Chan<V>>, NoMemory> {
 
 /// The same, with retries. The channel is dropped at a refusal.
 fn new_book<V: Copy>(spec: &Spec<V>) -> Result<Book<Chan<V>>, NoMemory> {
-    for _ in 0..TRIES {
-        if spec.has_bad_capacity() {
-            return Err(NoMemory);
-        }
-        match open_book(spec) {
-            Ok(book) => return Ok(book),
-            Err(NoMemory) => refused(true),
-        }
+    if spec.has_bad_capacity() {
+        return Err(NoMemory);
     }
-    Err(NoMemory)
+    made(|| open_book(spec))
 }
 
 /// Returns what is compared of a book.

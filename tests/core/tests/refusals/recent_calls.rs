@@ -1,6 +1,6 @@
 //! Copies of channels, and the last calls of one: a copy that is refused is tried again, and no call is lost by it.
 
-use crate::met::{TRIES, refused, say};
+use crate::met::{TRIES, made, refused, say};
 use crate::refusing::paused;
 use proved::rw_broadcast::BCall;
 use proved::rw_journal::{CallForm, RecentCalls, StoredCall, TakeFault};
@@ -60,14 +60,10 @@ fn play_copy(spec: Spec<u64>, call: ChanCall<u64>, questions: [ChanCall<u64>; 2]
 
 /// Opens the last calls of a broadcast that retains two values.
 fn open() -> Result<ChannelCalls, NoMemory> {
-    for _ in 0..TRIES {
+    made(|| {
         let channel = paused(|| open_channel(Global, &Spec::Broadcast(2)).unwrap());
-        match RecentCalls::open(Global, channel, CHUNK) {
-            Ok(recent) => return Ok(recent),
-            Err(NoMemory) => refused(true),
-        }
-    }
-    Err(NoMemory)
+        RecentCalls::open(Global, channel, CHUNK)
+    })
 }
 
 /// How many calls were dropped, and how many each chunk has.

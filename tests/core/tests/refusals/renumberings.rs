@@ -1,6 +1,6 @@
 //! New numbers for the live handles of channels, and of one whose recording has ended.
 
-use crate::met::{TRIES, refused, say};
+use crate::met::{say, tried};
 use crate::refusing::paused;
 use proved::rw_broadcast::BCall;
 use proved::rw_handles::Kind;
@@ -47,14 +47,11 @@ fn handles(channel: &Chan<u64>) -> ([Option<Kind>; 5], u32) {
 }
 
 fn renumber(channel: &mut Chan<u64>) -> Result<Vec<u32>, NoMemory> {
-    let before = handles(channel);
-    for _ in 0..TRIES {
-        match channel.renumber(Global) {
-            Ok(numbers) => return Ok(numbers),
-            Err(NoMemory) => refused(handles(channel) == before),
-        }
-    }
-    Err(NoMemory)
+    tried(
+        channel,
+        |channel| handles(channel),
+        |channel| channel.renumber(Global),
+    )
 }
 
 /// Renumbers a channel after these calls.
@@ -80,14 +77,11 @@ fn asked(recording: &Recording) -> (bool, u64, u64) {
 }
 
 fn renumber_recording(recording: &mut Recording) -> Result<Option<Vec<u32>>, NoMemory> {
-    let before = asked(recording);
-    for _ in 0..TRIES {
-        match recording.renumber(Global) {
-            Ok(numbers) => return Ok(numbers),
-            Err(NoMemory) => refused(asked(recording) == before),
-        }
-    }
-    Err(NoMemory)
+    tried(
+        recording,
+        |recording| asked(recording),
+        |recording| recording.renumber(Global),
+    )
 }
 
 /// Renumbers a channel while its calls are recorded, and then again.

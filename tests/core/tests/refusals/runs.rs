@@ -1,6 +1,6 @@
 //! Runs: built entry by entry, and opened again at their start.
 
-use crate::met::{TRIES, refused, say};
+use crate::met::{TRIES, refused, say, tried};
 use crate::readings::{Readings, SPECS, of_world};
 use proved::Global;
 use proved::rw_broadcast::{BCall, BReply};
@@ -45,14 +45,7 @@ fn finish<V: Payload>(draft: RunDraft<V>) -> Run<V> {
 
 /// The world before a run's first entry.
 fn start<V: Copy>(run: &Run<V>) -> Result<World<V>, NoMemory> {
-    let length = run.len();
-    for _ in 0..TRIES {
-        match run.start(Global) {
-            Ok(world) => return Ok(world),
-            Err(NoMemory) => refused(run.len() == length),
-        }
-    }
-    Err(NoMemory)
+    tried(run, |run| run.len(), |run| run.start(Global))
 }
 
 /// Pushes twenty sends of their stamps, and as many values stored at the same stamps.

@@ -1,6 +1,6 @@
 //! Scripts: read whole and line by line, played on a book, and run.
 
-use crate::met::{TRIES, refused, say};
+use crate::met::{TRIES, refused, say, tried};
 use proved::Global;
 use proved::rw_journal::Run;
 use proved::rw_law::NoMemory;
@@ -97,6 +97,14 @@ fn finished(reader: ScriptReader) -> Result<Script, ScriptFault> {
 /// How many entries a script that was played has, and which line would wait.
 type Entries = (u64, Option<u64>);
 
+/// Does this with a script, which keeps its steps at a refusal.
+fn with_retries(
+    script: &Script,
+    play: fn(&Script) -> Result<Entries, NoMemory>,
+) -> Result<Entries, NoMemory> {
+    tried(script, |script| script.steps().len(), |script| play(script))
+}
+
 /// Plays a script on a book.
 fn play_once(script: &Script) -> Result<Entries, NoMemory> {
     let Played { specs, book, waits } = play_script(Global, script)?;
@@ -105,14 +113,7 @@ fn play_once(script: &Script) -> Result<Entries, NoMemory> {
 
 /// The same, with retries.
 fn played(script: &Script) -> Result<Entries, NoMemory> {
-    let steps = script.steps().len();
-    for _ in 0..TRIES {
-        match play_once(script) {
-            Err(NoMemory) => refused(script.steps().len() == steps),
-            answer => return answer,
-        }
-    }
-    Err(NoMemory)
+    with_retries(script, play_once)
 }
 
 /// Runs a script in one thread.
@@ -123,14 +124,7 @@ fn run_once(script: &Script) -> Result<Entries, NoMemory> {
 
 /// The same, with retries.
 fn run_script(script: &Script) -> Result<Entries, NoMemory> {
-    let steps = script.steps().len();
-    for _ in 0..TRIES {
-        match run_once(script) {
-            Err(NoMemory) => refused(script.steps().len() == steps),
-            answer => return answer,
-        }
-    }
-    Err(NoMemory)
+    with_retries(script, run_once)
 }
 
 /// Says how many entries a script has, and which line would wait, or why it isn't played.

@@ -1,6 +1,6 @@
 //! Journal texts: read, written, written and read again, and salvaged.
 
-use crate::met::{TRIES, refused, say};
+use crate::met::{TRIES, refused, say, tried};
 use proved::Global;
 use proved::Vec;
 use proved::rw_journal::Run;
@@ -48,14 +48,7 @@ fn salvage_text<V: Payload>(bytes: &[u8]) -> Result<(Run<V>, u64), TextFault> {
 
 /// Writes a run, and reads it again.
 fn write_and_read<V: Payload>(run: &Run<V>) -> Result<Run<V>, NoMemory> {
-    let length = run.len();
-    for _ in 0..TRIES {
-        match round_trip(Global, run) {
-            Ok(again) => return Ok(again),
-            Err(NoMemory) => refused(run.len() == length),
-        }
-    }
-    Err(NoMemory)
+    tried(run, |run| run.len(), |run| round_trip(Global, run))
 }
 
 /// Writes the text of a run into memory. At a refusal its first bytes were written, as many as the fault says: they are the first

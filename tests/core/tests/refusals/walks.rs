@@ -1,6 +1,6 @@
 //! Walks over a run: a navigator and a debugger of it, moves, and the index of a condition.
 
-use crate::met::{TRIES, refused, say};
+use crate::met::{refused, say, tried};
 use crate::readings::SPECS;
 use crate::runs::build;
 use proved::rw_journal::Run;
@@ -142,26 +142,20 @@ fn taken_over<V: Copy>(run: Run<V>) -> Result<Debugger<V>, NoMemory> {
 
 /// Makes the moves, with retries.
 fn walk<W: Walker>(walker: &mut W) -> Result<Vec<Result<(), OutOfRange>>, NoMemory> {
-    let stands = walker.stands();
-    for _ in 0..TRIES {
-        match walker.walk(&MOVES) {
-            Ok(answers) => return Ok(answers),
-            Err(NoMemory) => refused(walker.stands() == stands),
-        }
-    }
-    Err(NoMemory)
+    tried(
+        walker,
+        |walker| walker.stands(),
+        |walker| walker.walk(&MOVES),
+    )
 }
 
 /// Returns what an index finds next to a place, with retries.
 fn around<W: Walker>(walker: &W, place: u64) -> Result<Around, NoMemory> {
-    let stands = walker.stands();
-    for _ in 0..TRIES {
-        match walker.around(place) {
-            Ok(around) => return Ok(around),
-            Err(NoMemory) => refused(walker.stands() == stands),
-        }
-    }
-    Err(NoMemory)
+    tried(
+        walker,
+        |walker| walker.stands(),
+        |walker| walker.around(place),
+    )
 }
 
 /// Makes the moves, and says what each answered and the place after them.

@@ -5,6 +5,7 @@ use proved::rw_broadcast::{BCall, BReply, Broadcast};
 use proved::rw_handles::Kind;
 use proved::rw_law::Reversible;
 use proved::rw_watch::{WCall, WReply, Watch};
+use std::fmt::Debug;
 use support::Random;
 use support::fixtures::{to_broadcast, to_watch};
 
@@ -19,17 +20,74 @@ fn call_of<M: Reversible>(channel: &mut M, call: &M::Call) -> M::Reply {
     channel.apply(call).0
 }
 
-fn new_broadcast(channel: &mut Broadcast<u64>, call: BCall<u64>) -> u32 {
-    match call_of(channel, &call) {
-        BReply::New(number) => number,
-        other => panic!("{other:?}"),
+/// What is asked of calls of both kinds of channels.
+trait AnyCalls: Reversible<Call: Debug, Reply: PartialEq + Debug> {
+    fn any(kind: u64, handle: u32, value: u64) -> Self::Call;
+
+    fn by(call: &Self::Call, handle: u32) -> Self::Call;
+
+    /// The handle that the call created.
+    fn created(reply: &Self::Reply) -> Option<u32>;
+}
+
+impl AnyCalls for Broadcast<u64> {
+    fn any(kind: u64, handle: u32, value: u64) -> BCall<u64> {
+        to_broadcast(kind, handle, value)
+    }
+
+    fn by(call: &BCall<u64>, handle: u32) -> BCall<u64> {
+        call.with_handle(handle)
+    }
+
+    fn created(reply: &BReply<u64>) -> Option<u32> {
+        match reply {
+            BReply::New(number) => Some(*number),
+            _ => None,
+        }
     }
 }
 
-fn new_watch(channel: &mut Watch<u64>, call: WCall<u64>) -> u32 {
-    match call_of(channel, &call) {
-        WReply::New(number) => number,
-        other => panic!("{other:?}"),
+impl AnyCalls for Watch<u64> {
+    fn any(kind: u64, handle: u32, value: u64) -> WCall<u64> {
+        to_watch(kind, handle, value)
+    }
+
+    fn by(call: &WCall<u64>, handle: u32) -> WCall<u64> {
+        call.with_handle(handle)
+    }
+
+    fn created(reply: &WReply<u64>) -> Option<u32> {
+        match reply {
+            WReply::New(number) => Some(*number),
+            _ => None,
+        }
+    }
+}
+
+fn new<M: AnyCalls>(channel: &mut M, call: M::Call) -> u32 {
+    let reply = call_of(channel, &call);
+    M::created(&reply).unwrap_or_else(|| panic!("{reply:?}"))
+}
+
+/// Asserts that two channels answer random calls alike, by the handles of one and by their numbers in the other.
+fn answer_alike<M: AnyCalls>(
+    random: &mut Random,
+    channel: &mut M,
+    lead: &mut M,
+    mut numbers: Vec<u32>,
+) {
+    for value in 0..CALLS as u64 {
+        if numbers.is_empty() {
+            break;
+        }
+        let handle = random.below(numbers.len()) as u32;
+        let call = M::any(random.any(), handle, 100 + value);
+        let reply = call_of(channel, &call);
+        let other = call_of(lead, &M::by(&call, numbers[handle as usize]));
+        match (M::created(&reply), M::created(&other)) {
+            (Some(_), Some(number)) => numbers.push(number),
+            _ => assert_eq!(reply, other, "{call:?}"),
+        }
     }
 }
 
@@ -43,7 +101,7 @@ fn lead_to(channel: &Broadcast<u64>) -> (Broadcast<u64>, Vec<u32>) {
     let mut numbers = vec![u32::MAX; handles.len()];
     for at in first..=channel.sent() {
         for h in handles.clone().filter(|&h| channel.position(h) == Some(at)) {
-            numbers[h as usize] = new_broadcast(&mut lead, BCall::Subscribe(0));
+            numbers[h as usize] = new(&mut lead, BCall::Subscribe(0));
         }
         if at < channel.sent() {
             let value = at.checked_sub(oldest).and_then(|i| channel.window(i));
@@ -52,10 +110,8 @@ fn lead_to(channel: &Broadcast<u64>) -> (Broadcast<u64>, Vec<u32>) {
     }
     for h in handles {
         match channel.kind(h) {
-            Some(Kind::Sender) => {
-                numbers[h as usize] = new_broadcast(&mut lead, BCall::CloneSender(0))
-            }
-            Some(Kind::Weak) => numbers[h as usize] = new_broadcast(&mut lead, BCall::Downgrade(0)),
+            Some(Kind::Sender) => numbers[h as usize] = new(&mut lead, BCall::CloneSender(0)),
+            Some(Kind::Weak) => numbers[h as usize] = new(&mut lead, BCall::Downgrade(0)),
             _ => {}
         }
     }
@@ -73,7 +129,7 @@ fn lead_to_watch(channel: &Watch<u64>) -> (Watch<u64>, Vec<u32>) {
             Some(Kind::Receiver) => WCall::Subscribe(0),
             _ => WCall::CloneSender(0),
         };
-        let number = new_watch(&mut lead, call);
+        let number = new(&mut lead, call);
         if channel.is_seen(h) == Some(false) {
             call_of(&mut lead, &WCall::MarkChanged(number));
         }
@@ -106,7 +162,7 @@ fn a_broadcast_is_like_one_that_was_led_there() {
     for seed in 0..SCRIPTS {
         let mut random = Random::new(seed);
         let mut channel = any_broadcast(&mut random);
-        let (mut lead, mut numbers) = lead_to(&channel);
+        let (mut lead, numbers) = lead_to(&channel);
         assert!(
             channel.is_alike(Global, &lead, &numbers).unwrap(),
             "seed {seed}"
@@ -114,19 +170,7 @@ fn a_broadcast_is_like_one_that_was_led_there() {
         lags += (0..channel.made())
             .filter(|&h| channel.lag(h) > Some(0))
             .count();
-        for value in 0..CALLS as u64 {
-            if numbers.is_empty() {
-                break;
-            }
-            let handle = random.below(numbers.len()) as u32;
-            let call = to_broadcast(random.any(), handle, 100 + value);
-            let reply = call_of(&mut channel, &call);
-            let other = call_of(&mut lead, &call.with_handle(numbers[handle as usize]));
-            match (&reply, &other) {
-                (BReply::New(_), BReply::New(number)) => numbers.push(*number),
-                _ => assert_eq!(reply, other, "seed {seed}, {call:?}"),
-            }
-        }
+        answer_alike(&mut random, &mut channel, &mut lead, numbers);
     }
     assert!(lags > 100, "{lags}");
 }
@@ -141,24 +185,12 @@ fn a_watch_is_like_one_that_was_led_there() {
             call_of(&mut channel, &to_watch(random.any(), handle, value));
         }
         channel.renumber(Global).unwrap();
-        let (mut lead, mut numbers) = lead_to_watch(&channel);
+        let (mut lead, numbers) = lead_to_watch(&channel);
         assert!(
             channel.is_alike(Global, &lead, &numbers).unwrap(),
             "seed {seed}"
         );
-        for value in 0..CALLS as u64 {
-            if numbers.is_empty() {
-                break;
-            }
-            let handle = random.below(numbers.len()) as u32;
-            let call = to_watch(random.any(), handle, 100 + value);
-            let reply = call_of(&mut channel, &call);
-            let other = call_of(&mut lead, &call.with_handle(numbers[handle as usize]));
-            match (&reply, &other) {
-                (WReply::New(_), WReply::New(number)) => numbers.push(*number),
-                _ => assert_eq!(reply, other, "seed {seed}, {call:?}"),
-            }
-        }
+        answer_alike(&mut random, &mut channel, &mut lead, numbers);
     }
 }
 

@@ -7,7 +7,7 @@ use proved::rw_program::check_file;
 use proved::rw_program::debug_file;
 use proved::rw_program::record_file;
 use proved::rw_program::salvage_file;
-use support::devices::{FailingReader, FailingWriter};
+use support::devices::{FailingReader, FailingWriter, at_each_call};
 
 pub const SCRIPT: &[u8] = b"broadcast 4\n0 0 send 0 7\n0 0 try-recv 1\n0 0 drop 0\n";
 
@@ -80,11 +80,7 @@ fn is_recorded(calls: u64, done: bool) -> bool {
 
 #[test]
 fn each_read_and_each_write_fails() {
-    let mut done = false;
-    for calls in 0..100u64 {
-        done = is_recorded(calls, done);
-    }
-    assert!(done);
+    at_each_call(100, is_recorded);
 }
 
 /// Whether the journal is checked completely. Sixteen reads return the journal, and one more its end.
@@ -98,11 +94,7 @@ fn is_checked(calls: u64, done: bool) -> bool {
 
 #[test]
 fn each_read_and_each_write_of_a_check_fails() {
-    let mut done = false;
-    for calls in 0..30u64 {
-        done = is_checked(calls, done);
-    }
-    assert!(done);
+    at_each_call(30, is_checked);
 }
 
 /// How many writes succeed, and how many bytes of the line they write. Each writes three bytes at most, so five writes write the

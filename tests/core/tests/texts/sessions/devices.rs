@@ -3,7 +3,7 @@
 use proved::Global;
 use proved::rw_console::session;
 use proved::rw_console::{Outcome, SessionFault};
-use support::devices::{FailingReader, FailingWriter};
+use support::devices::{FailingReader, FailingWriter, at_each_call};
 
 const INPUT: &[u8] =
     b"broadcast 2\n0 0 send 0 1\n0 0 try-recv 1\n0 0 recv 1\n---\nlist\nstate\nstate json\nback\nstep\nrforward reply value\nrback closed 0\nlost\nquit\n";
@@ -38,11 +38,7 @@ fn is_read(calls: u64, done: bool) -> bool {
 
 #[test]
 fn each_read_fails() {
-    let mut done = false;
-    for calls in 0..200u64 {
-        done = is_read(calls, done);
-    }
-    assert!(done);
+    at_each_call(200, is_read);
 }
 
 /// Whether a session is complete whose writer fails after this many calls.
@@ -55,11 +51,7 @@ fn is_written(calls: u64, done: bool) -> bool {
 
 #[test]
 fn each_write_fails() {
-    let mut done = false;
-    for calls in 0..200u64 {
-        done = is_written(calls, done);
-    }
-    assert!(done);
+    at_each_call(200, is_written);
 }
 
 #[test]
