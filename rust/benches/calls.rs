@@ -1,8 +1,11 @@
 //! Nanoseconds a call, recorded, with a flight recorder and with no recorder set, the cases those
 //! of tokio's own bench: `cargo bench -- CALLS REPEATS`.
 
+#[path = "../tests/support/receiving.rs"]
+mod receiving;
+
+use receiving::SENT;
 use std::hint::black_box;
-use std::sync::Barrier;
 use std::thread;
 use std::time::{Duration, Instant};
 use yovanelum::{ChannelSnapshot, Recorder, broadcast, watch};
@@ -107,44 +110,18 @@ fn ping(calls: u64) -> Timed {
     timed
 }
 
-/// Receivers in equal parts on four threads, which receive side by side what was sent before. The
-/// sends aren't timed.
 fn side_by_side(calls: u64, receivers: usize) -> Timed {
-    const SENT: usize = 4096;
     let (tx, rx) = broadcast::channel(SENT);
     let mut all: Vec<_> = (1..receivers).map(|_| tx.subscribe()).collect();
     all.push(rx);
-    let rounds = (calls / (SENT * (receivers + 1)) as u64).max(1);
-    let parts: Vec<_> = all.chunks_mut(receivers.div_ceil(4)).collect();
-    let barrier = Barrier::new(parts.len() + 1);
-    let mut took = Duration::ZERO;
-    thread::scope(|scope| {
-        for part in parts {
-            scope.spawn(|| {
-                for _ in 0..rounds {
-                    barrier.wait();
-                    for _ in 0..SENT {
-                        for rx in &mut *part {
-                            black_box(rx.try_recv().unwrap());
-                        }
-                    }
-                    barrier.wait();
-                }
-            });
-        }
-        for _ in 0..rounds {
-            for value in 0..SENT {
-                tx.send(value).unwrap();
-            }
-            // The others wait there by now. After it, they may be done before this thread runs
-            // again.
-            let start = Instant::now();
-            barrier.wait();
-            barrier.wait();
-            took += start.elapsed();
-        }
-    });
-    (rounds * (SENT * receivers) as u64, took)
+    let send = |value| {
+        tx.send(value).unwrap();
+    };
+    let receive = |rx: &mut broadcast::Receiver<_>| {
+        black_box(rx.try_recv().unwrap());
+    };
+    let (received, took) = receiving::side_by_side(calls as usize, all, send, receive);
+    (received as u64, took)
 }
 
 /// Lags with a closure that is called: two sends and two receives each.

@@ -82,6 +82,9 @@ mod budget;
 mod channel;
 mod clock;
 mod command;
+#[cfg(test)]
+#[path = "../tests/support/console.rs"]
+mod console;
 mod cut;
 pub mod debugger;
 mod events;

@@ -308,6 +308,13 @@ fn push_list<V>(out: &mut String, items: &[V], push: impl Fn(&mut String, &V)) {
 mod tests {
     use super::*;
 
+    /// Asserts that these names are read as they are written, and returns what is written.
+    pub(super) fn written_and_read(names: Names) -> String {
+        let json = names.to_json();
+        assert_eq!(Names::read(&json), Ok(names));
+        json
+    }
+
     fn at(file: &str, line: u32, column: u32) -> SourceLocation {
         SourceLocation {
             file: file.into(),

@@ -89,14 +89,16 @@ fn that_recording_ended_is_said_once() {
     );
 }
 
-/// Returns the lines that the part of this test writes. Asserts that the part succeeds, and that
-/// the first line is one of its own.
-fn told(test: &str) -> Vec<String> {
+/// Asserts that the part of this test succeeds, and writes two lines: one of its own that says what
+/// was made, and one with these words.
+fn says_once(test: &str, words: &[&str]) {
     let folder = Folder::new(test);
-    let (succeeds, mut said) = played(test, &folder.0, None);
-    assert!(succeeds, "{said:#?}");
-    assert!(said.remove(0).contains("are made"), "{said:#?}");
-    said
+    let (succeeds, said) = played(test, &folder.0, None);
+    let [own, line] = &said[..] else {
+        panic!("{said:#?}");
+    };
+    assert!(succeeds && own.contains("are made"), "{said:#?}");
+    assert!(words.iter().all(|word| line.contains(word)), "{line}");
 }
 
 #[test]
@@ -112,14 +114,8 @@ fn that_the_65th_channel_is_recorded_by_none_is_said_once() {
             .collect();
         return;
     }
-    let said = told("that_the_65th_channel_is_recorded_by_none_is_said_once");
-    let [line] = &said[..] else {
-        panic!("{said:#?}");
-    };
-    assert!(
-        line.contains("64 channels") && line.contains("recorded by none"),
-        "{line}"
-    );
+    let test = "that_the_65th_channel_is_recorded_by_none_is_said_once";
+    says_once(test, &["64 channels", "recorded by none"]);
 }
 
 #[test]
@@ -132,14 +128,8 @@ fn that_a_channel_left_the_run_is_said_once() {
         (0..64).for_each(|_| drop(broadcast::channel::<u8>(2)));
         return;
     }
-    let said = told("that_a_channel_left_the_run_is_said_once");
-    let [line] = &said[..] else {
-        panic!("{said:#?}");
-    };
-    assert!(
-        line.contains("64 channels") && line.contains("leaves it"),
-        "{line}"
-    );
+    let test = "that_a_channel_left_the_run_is_said_once";
+    says_once(test, &["64 channels", "leaves it"]);
 }
 
 #[test]
@@ -158,14 +148,8 @@ fn that_a_channel_makes_more_handles_than_a_journal_names_is_said_once() {
         make(10);
         return;
     }
-    let said = told("that_a_channel_makes_more_handles_than_a_journal_names_is_said_once");
-    let [line] = &said[..] else {
-        panic!("{said:#?}");
-    };
-    assert!(
-        line.contains("as many handles as a journal names (65536)"),
-        "{line}"
-    );
+    let test = "that_a_channel_makes_more_handles_than_a_journal_names_is_said_once";
+    says_once(test, &["as many handles as a journal names (65536)"]);
 }
 
 #[test]

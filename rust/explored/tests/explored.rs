@@ -122,18 +122,22 @@ impl Program {
         fs::read_to_string(path).unwrap_or_else(|_| said(&ran.unwrap()))
     }
 
-    /// Replays a journal, or what is beside it. One that hangs is ended.
-    pub fn replayed(&self, journal: &str) -> Replayed {
+    /// The same command, which is ended after so many seconds.
+    fn command_that_ends(&self, seconds: u32) -> Command {
         let mut command = Command::new("timeout");
         let program = self.command();
-        let ran = command
-            .arg("3")
+        command
+            .arg(seconds.to_string())
             .arg(program.get_program())
             .args(program.get_args())
-            .env("YOVANELUM_REPLAY", journal)
-            .env("RUST_BACKTRACE", "0")
-            .output()
-            .unwrap();
+            .env("RUST_BACKTRACE", "0");
+        command
+    }
+
+    /// Replays a journal, or what is beside it. One that hangs is ended.
+    pub fn replayed(&self, journal: &str) -> Replayed {
+        let mut command = self.command_that_ends(3);
+        let ran = command.env("YOVANELUM_REPLAY", journal).output().unwrap();
         Replayed {
             code: ran.status.code(),
             said: said(&ran),

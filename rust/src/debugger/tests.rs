@@ -1,10 +1,9 @@
 //! Walks over random runs, beside the console of `ttd`, and beside runs of the first calls alone.
 
 use super::{Condition, Walk};
+use crate::console;
 use crate::run::tests::{Random, random_journal, random_of, runs};
 use std::fmt::Write as _;
-use std::io::Write as _;
-use std::process::{Command, Stdio};
 
 /// Returns what the console prints for `state` and `step`.
 fn shown(walk: &Walk) -> String {
@@ -84,17 +83,9 @@ fn console(journal: &str, commands: &str) -> Option<String> {
     let ttd = std::env::var_os("YOVANELUM_TTD")?;
     let path = crate::temporary::path("walked.journal");
     std::fs::write(&path, journal).unwrap();
-    let mut ttd = Command::new(ttd);
-    ttd.arg("debug").arg(&path);
-    let ttd = ttd.stdin(Stdio::piped()).stdout(Stdio::piped());
-    let mut ttd = ttd.spawn().unwrap();
-    let mut input = ttd.stdin.take().unwrap();
-    let commands = commands.to_string();
-    let writer = std::thread::spawn(move || input.write_all(commands.as_bytes()));
-    let written = ttd.wait_with_output().unwrap().stdout;
-    writer.join().unwrap().unwrap();
+    let written = console::written(&ttd, &path, commands);
     std::fs::remove_file(path).unwrap();
-    Some(String::from_utf8(written).unwrap())
+    Some(written)
 }
 
 #[test]

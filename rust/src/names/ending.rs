@@ -272,6 +272,7 @@ fn sources(value: Json) -> Result<BTreeMap<String, u64>, String> {
 mod tests {
     use super::*;
     use crate::names::Names;
+    use crate::names::tests::written_and_read;
 
     fn example() -> Names {
         Names {
@@ -333,8 +334,7 @@ mod tests {
 
     #[test]
     fn what_is_written_is_read() {
-        let json = example().to_json();
-        assert_eq!(Names::read(&json), Ok(example()));
+        let json = written_and_read(example());
         let faulty = json.replace("ffffffffffffffff", "x");
         assert_eq!(
             Names::read(&faulty),

@@ -112,6 +112,7 @@ fn maker(value: Json) -> Result<Maker, String> {
 mod tests {
     use super::*;
     use crate::names::Names;
+    use crate::names::tests::written_and_read;
 
     fn example() -> Names {
         let maker = |name: Option<&str>, nth| Maker {
@@ -148,8 +149,7 @@ mod tests {
 
     #[test]
     fn what_is_written_is_read() {
-        let json = example().to_json();
-        assert_eq!(Names::read(&json), Ok(example()));
+        let json = written_and_read(example());
         let faulty = json.replace("[null, 1]", "[null, -1]");
         let fault = Names::read(&faulty).unwrap_err();
         assert!(fault.starts_with("its `made_by`: "), "{fault}");

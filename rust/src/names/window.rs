@@ -170,6 +170,7 @@ pub(super) fn times(value: Json) -> Result<Vec<Moment>, String> {
 #[cfg(test)]
 mod tests {
     use super::*;
+    use crate::names::tests::written_and_read;
 
     fn example() -> Names {
         let prices = ChannelWindow {
@@ -253,8 +254,7 @@ mod tests {
 
     #[test]
     fn what_is_written_is_read() {
-        let json = example().to_json();
-        assert_eq!(Names::read(&json), Ok(example()));
+        let json = written_and_read(example());
         let later = json.replace("\"version\": 4", "\"version\": 5");
         let refused = Names::read(&later).unwrap_err();
         assert_eq!(

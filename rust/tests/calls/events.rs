@@ -1,28 +1,15 @@
 //! Closures that are called with a lag or a closing, on the channels of a recorder.
 
 use crate::noted::Noted;
+use crate::told::{line, send_each};
 use std::future::Future;
-use std::panic::{AssertUnwindSafe, Location, catch_unwind};
+use std::panic::{AssertUnwindSafe, catch_unwind};
 use std::pin::pin;
 use std::sync::{Arc, Mutex};
 use std::task::{Context, Waker};
 use std::thread;
 use yovanelum::broadcast::error::{RecvError, TryRecvError};
 use yovanelum::{Close, Lag, Recorder, block_on, broadcast, named, watch};
-
-/// Returns the line of a place in this file.
-fn line(at: Option<&'static Location<'static>>) -> u32 {
-    let at = at.expect("a place");
-    assert_eq!(at.file(), file!());
-    at.line()
-}
-
-/// Sends these values.
-fn send_each(prices: &broadcast::Sender<i32>, values: std::ops::Range<i32>) {
-    for value in values {
-        prices.send(value).unwrap();
-    }
-}
 
 #[test]
 fn a_lag_says_each_thing_of_the_channel_the_receiver_and_the_sender() {

@@ -18,6 +18,7 @@ mod scopes;
 mod settings;
 mod snapshot;
 mod texts;
+mod told;
 mod used_again;
 mod watch;
 mod who_waits;

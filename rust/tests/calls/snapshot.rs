@@ -1,26 +1,12 @@
 //! Snapshots of a channel, of a recorder, and of all channels.
 
+use crate::told::{line, send_each};
 use std::future::Future;
-use std::panic::Location;
 use std::pin::pin;
 use std::task::{Context, Waker};
 use std::time::Instant;
 use yovanelum::broadcast::error::TryRecvError;
 use yovanelum::{ChannelSnapshot, Recorder, block_on, broadcast, named, watch};
-
-/// Returns the line of a place in this file.
-fn line(at: Option<&'static Location<'static>>) -> u32 {
-    let at = at.expect("a place");
-    assert_eq!(at.file(), file!());
-    at.line()
-}
-
-/// Sends these values.
-fn send_each(prices: &broadcast::Sender<i32>, values: std::ops::Range<i32>) {
-    for value in values {
-        prices.send(value).unwrap();
-    }
-}
 
 #[test]
 fn a_recorded_broadcast_says_each_thing_of_the_channel_and_of_its_receivers() {

@@ -4,6 +4,7 @@
 #[path = "../support/mod.rs"]
 mod support;
 
+mod beside_model;
 mod limits;
 mod locations;
 mod model_broadcast;

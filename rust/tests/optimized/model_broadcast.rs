@@ -1,9 +1,9 @@
 //! Random calls on a broadcast, compared with a plain model: how many values were sent, and the
 //! position of each receiver.
 
-use crate::support::{Random, accepted, poll_once};
+use crate::beside_model::{Beside, Pairs};
+use crate::support::{Random, poll_once};
 use std::rc::{Rc, Weak};
-use yovanelum::Recorder;
 use yovanelum::broadcast::{
     self, Receiver, Sender, WeakSender, error::RecvError, error::TryRecvError,
 };
@@ -82,39 +82,6 @@ impl Pair {
         }
     }
 
-    /// Makes a random call on both.
-    fn step(&mut self, random: &mut Random) {
-        let (s, r, w) = (self.senders.len(), self.receivers.len(), self.weak.len());
-        match random.below(19) {
-            0..=4 if s > 0 => self.send(random.below(s)),
-            5..=7 if r > 0 => self.try_recv(random.below(r)),
-            8..=9 if r > 0 => self.recv(random.below(r)),
-            10 if s > 0 => self.begin(self.senders[random.below(s)].subscribe()),
-            11 if r > 0 => self.begin(self.receivers[random.below(r)].resubscribe()),
-            12 if s > 0 => {
-                self.senders.push(self.senders[random.below(s)].clone());
-                self.model.senders += 1;
-            }
-            13 if r > 0 && random.below(2) == 0 => {
-                let dropped = random.below(r);
-                drop(self.receivers.swap_remove(dropped));
-                self.model.places.swap_remove(dropped);
-            }
-            14 if s > 0 && random.below(4) == 0 => {
-                drop(self.senders.swap_remove(random.below(s)));
-                self.model.senders -= 1;
-            }
-            15 if s > 0 => self.weak.push(self.senders[random.below(s)].downgrade()),
-            16 if w > 0 => self.upgrade(random.below(w)),
-            17 if w > 0 && random.below(2) == 0 => {
-                self.weak.push(self.weak[random.below(w)].clone())
-            }
-            17 if w > 0 => drop(self.weak.swap_remove(random.below(w))),
-            _ => self.ask(),
-        }
-        self.assert_values_are_kept();
-    }
-
     /// Asserts that exactly those values are alive that a receiver has yet to receive.
     fn assert_values_are_kept(&self) {
         for (number, value) in self.values.iter().enumerate() {
@@ -124,15 +91,6 @@ impl Pair {
                 "value {number} of {}",
                 self.model.sent
             );
-        }
-    }
-
-    /// Creates and drops this many receivers, if there is a handle that creates them.
-    fn create_and_drop(&self, count: usize) {
-        match (self.senders.first(), self.receivers.first()) {
-            (Some(sender), _) => (0..count).for_each(|_| drop(sender.subscribe())),
-            (None, Some(receiver)) => (0..count).for_each(|_| drop(receiver.resubscribe())),
-            (None, None) => {}
         }
     }
 
@@ -195,41 +153,63 @@ impl Pair {
     }
 }
 
-#[test]
-fn random_calls_answer_as_the_model() {
-    for seed in 0..200 {
-        let mut random = Random::new(seed);
-        let recorder = Recorder::new();
-        if seed % 2 == 1 {
-            recorder.quiet_questions();
+impl Beside for Pair {
+    fn step(&mut self, random: &mut Random) {
+        let (s, r, w) = (self.senders.len(), self.receivers.len(), self.weak.len());
+        match random.below(19) {
+            0..=4 if s > 0 => self.send(random.below(s)),
+            5..=7 if r > 0 => self.try_recv(random.below(r)),
+            8..=9 if r > 0 => self.recv(random.below(r)),
+            10 if s > 0 => self.begin(self.senders[random.below(s)].subscribe()),
+            11 if r > 0 => self.begin(self.receivers[random.below(r)].resubscribe()),
+            12 if s > 0 => {
+                self.senders.push(self.senders[random.below(s)].clone());
+                self.model.senders += 1;
+            }
+            13 if r > 0 && random.below(2) == 0 => {
+                let dropped = random.below(r);
+                drop(self.receivers.swap_remove(dropped));
+                self.model.places.swap_remove(dropped);
+            }
+            14 if s > 0 && random.below(4) == 0 => {
+                drop(self.senders.swap_remove(random.below(s)));
+                self.model.senders -= 1;
+            }
+            15 if s > 0 => self.weak.push(self.senders[random.below(s)].downgrade()),
+            16 if w > 0 => self.upgrade(random.below(w)),
+            17 if w > 0 && random.below(2) == 0 => {
+                self.weak.push(self.weak[random.below(w)].clone())
+            }
+            17 if w > 0 => drop(self.weak.swap_remove(random.below(w))),
+            _ => self.ask(),
         }
-        let entered = recorder.enter();
-        let mut pair = Pair::open(1 + random.below(6));
-        drop(entered);
-        for _ in 0..300 {
-            pair.step(&mut random);
-        }
-        drop(pair);
-        if seed < 20 {
-            assert!(accepted(&recorder, &format!("model-broadcast-{seed}")) > 0);
+        self.assert_values_are_kept();
+    }
+
+    fn create_and_drop(&self, count: usize) {
+        match (self.senders.first(), self.receivers.first()) {
+            (Some(sender), _) => (0..count).for_each(|_| drop(sender.subscribe())),
+            (None, Some(receiver)) => (0..count).for_each(|_| drop(receiver.resubscribe())),
+            (None, None) => {}
         }
     }
 }
 
+/// The pairs that are opened.
+const PAIRS: Pairs<Pair> = Pairs {
+    name: "model-broadcast",
+    seeds: 0,
+    open: |random| Pair::open(1 + random.below(6)),
+};
+
+#[test]
+fn random_calls_answer_as_the_model() {
+    PAIRS.answer_alike();
+}
+
 #[test]
 fn random_calls_answer_as_the_model_where_the_core_takes_dropped_handles_out() {
-    for seed in 0..100 {
-        let mut random = Random::new(seed + 700);
-        let off = Recorder::off().enter();
-        let mut pair = Pair::open(1 + random.below(6));
-        drop(off);
-        for _ in 0..6 {
-            for _ in 0..50 {
-                pair.step(&mut random);
-            }
-            pair.create_and_drop(600);
-        }
-    }
+    PAIRS.answer_alike_unrecorded();
 }
 
 #[test]
@@ -238,22 +218,5 @@ fn random_calls_answer_as_the_model_where_the_core_takes_dropped_handles_out() {
     ignore = "the release build has it: here it takes half a minute"
 )]
 fn random_calls_answer_as_the_model_past_65_536_handles() {
-    for seed in 0..2 {
-        let mut random = Random::new(seed + 500);
-        let recorder = Recorder::new();
-        let entered = recorder.enter();
-        let mut pair = Pair::open(1 + random.below(6));
-        drop(entered);
-        for _ in 0..3 {
-            for _ in 0..200 {
-                pair.step(&mut random);
-            }
-            pair.create_and_drop(65_400);
-        }
-        for _ in 0..300 {
-            pair.step(&mut random);
-        }
-        drop(pair);
-        accepted(&recorder, &format!("model-broadcast-many-{seed}"));
-    }
+    PAIRS.answer_alike_past_the_handles();
 }

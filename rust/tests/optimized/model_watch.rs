@@ -1,9 +1,9 @@
 //! Random calls on a watch, compared with a plain model: the value, how many changes were notified,
 //! and what each receiver has seen.
 
-use crate::support::{Random, accepted, poll_once};
+use crate::beside_model::{Beside, Pairs};
+use crate::support::{Random, poll_once};
 use std::rc::{Rc, Weak};
-use yovanelum::Recorder;
 use yovanelum::watch::{self, Receiver, Sender};
 
 /// The channel as tokio's documentation describes it.
@@ -60,54 +60,6 @@ impl Pair {
         let value = Rc::new(self.next);
         let weak = Rc::downgrade(&value);
         (value, weak)
-    }
-
-    /// Makes a random call on both.
-    fn step(&mut self, random: &mut Random) {
-        let (s, r) = (self.senders.len(), self.receivers.len());
-        match random.below(20) {
-            0..=2 if s > 0 => self.send(random.below(s)),
-            3 if s > 0 => self.send_replace(random.below(s)),
-            4..=5 if s > 0 => self.modify(random.below(s), random.below(2) == 0),
-            6..=8 if r > 0 => self.changed(random.below(r)),
-            9..=10 if r > 0 => self.update(random.below(r)),
-            11 if r > 0 => self.wait_for(random.below(r), random.below(self.next + 2)),
-            12..=13 if r > 0 => self.mark(random.below(r), random.below(2) == 0),
-            14 if s > 0 => {
-                let receiver = self.senders[random.below(s)].subscribe();
-                self.begin(receiver, Some(self.model.changes));
-            }
-            15 if r > 0 => {
-                let source = random.below(r);
-                self.begin(self.receivers[source].clone(), self.model.seen[source]);
-            }
-            16 if s > 0 => {
-                self.senders.push(self.senders[random.below(s)].clone());
-                self.model.senders += 1;
-            }
-            17 if r > 0 && random.below(2) == 0 => {
-                let dropped = random.below(r);
-                drop(self.receivers.swap_remove(dropped));
-                self.model.seen.swap_remove(dropped);
-            }
-            18 if s > 0 && random.below(4) == 0 => {
-                drop(self.senders.swap_remove(random.below(s)));
-                self.model.senders -= 1;
-            }
-            _ => self.ask(),
-        }
-        // The last value is alive as long as there is a handle.
-        let is_kept = !self.senders.is_empty() || !self.receivers.is_empty();
-        assert_eq!(self.last.strong_count() > 0, is_kept);
-    }
-
-    /// Creates and drops this many receivers, if there is a handle that creates them.
-    fn create_and_drop(&self, count: usize) {
-        match (self.senders.first(), self.receivers.first()) {
-            (Some(sender), _) => (0..count).for_each(|_| drop(sender.subscribe())),
-            (None, Some(receiver)) => (0..count).for_each(|_| drop(receiver.clone())),
-            (None, None) => {}
-        }
     }
 
     fn begin(&mut self, receiver: Receiver<Rc<usize>>, seen: Option<usize>) {
@@ -220,61 +172,72 @@ impl Pair {
     }
 }
 
-#[test]
-fn random_calls_answer_as_the_model() {
-    for seed in 0..200 {
-        let mut random = Random::new(seed + 1000);
-        let recorder = Recorder::new();
-        if seed % 2 == 1 {
-            recorder.quiet_questions();
+impl Beside for Pair {
+    fn step(&mut self, random: &mut Random) {
+        let (s, r) = (self.senders.len(), self.receivers.len());
+        match random.below(20) {
+            0..=2 if s > 0 => self.send(random.below(s)),
+            3 if s > 0 => self.send_replace(random.below(s)),
+            4..=5 if s > 0 => self.modify(random.below(s), random.below(2) == 0),
+            6..=8 if r > 0 => self.changed(random.below(r)),
+            9..=10 if r > 0 => self.update(random.below(r)),
+            11 if r > 0 => self.wait_for(random.below(r), random.below(self.next + 2)),
+            12..=13 if r > 0 => self.mark(random.below(r), random.below(2) == 0),
+            14 if s > 0 => {
+                let receiver = self.senders[random.below(s)].subscribe();
+                self.begin(receiver, Some(self.model.changes));
+            }
+            15 if r > 0 => {
+                let source = random.below(r);
+                self.begin(self.receivers[source].clone(), self.model.seen[source]);
+            }
+            16 if s > 0 => {
+                self.senders.push(self.senders[random.below(s)].clone());
+                self.model.senders += 1;
+            }
+            17 if r > 0 && random.below(2) == 0 => {
+                let dropped = random.below(r);
+                drop(self.receivers.swap_remove(dropped));
+                self.model.seen.swap_remove(dropped);
+            }
+            18 if s > 0 && random.below(4) == 0 => {
+                drop(self.senders.swap_remove(random.below(s)));
+                self.model.senders -= 1;
+            }
+            _ => self.ask(),
         }
-        let entered = recorder.enter();
-        let mut pair = Pair::open();
-        drop(entered);
-        for _ in 0..300 {
-            pair.step(&mut random);
-        }
-        drop(pair);
-        if seed < 20 {
-            assert!(accepted(&recorder, &format!("model-watch-{seed}")) > 0);
+        // The last value is alive as long as there is a handle.
+        let is_kept = !self.senders.is_empty() || !self.receivers.is_empty();
+        assert_eq!(self.last.strong_count() > 0, is_kept);
+    }
+
+    fn create_and_drop(&self, count: usize) {
+        match (self.senders.first(), self.receivers.first()) {
+            (Some(sender), _) => (0..count).for_each(|_| drop(sender.subscribe())),
+            (None, Some(receiver)) => (0..count).for_each(|_| drop(receiver.clone())),
+            (None, None) => {}
         }
     }
+}
+
+/// The pairs that are opened.
+const PAIRS: Pairs<Pair> = Pairs {
+    name: "model-watch",
+    seeds: 1_000,
+    open: |_| Pair::open(),
+};
+
+#[test]
+fn random_calls_answer_as_the_model() {
+    PAIRS.answer_alike();
 }
 
 #[test]
 fn random_calls_answer_as_the_model_where_the_core_takes_dropped_handles_out() {
-    for seed in 0..100 {
-        let mut random = Random::new(seed + 1700);
-        let off = Recorder::off().enter();
-        let mut pair = Pair::open();
-        drop(off);
-        for _ in 0..6 {
-            for _ in 0..50 {
-                pair.step(&mut random);
-            }
-            pair.create_and_drop(600);
-        }
-    }
+    PAIRS.answer_alike_unrecorded();
 }
 
 #[test]
 fn random_calls_answer_as_the_model_past_65_536_handles() {
-    for seed in 0..2 {
-        let mut random = Random::new(seed + 1500);
-        let recorder = Recorder::new();
-        let entered = recorder.enter();
-        let mut pair = Pair::open();
-        drop(entered);
-        for _ in 0..3 {
-            for _ in 0..200 {
-                pair.step(&mut random);
-            }
-            pair.create_and_drop(65_400);
-        }
-        for _ in 0..300 {
-            pair.step(&mut random);
-        }
-        drop(pair);
-        accepted(&recorder, &format!("model-watch-many-{seed}"));
-    }
+    PAIRS.answer_alike_past_the_handles();
 }

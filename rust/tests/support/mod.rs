@@ -1,6 +1,7 @@
 //! What several tests share.
 #![allow(dead_code, unused_imports)]
 
+pub mod console;
 pub mod named;
 pub mod parts;
 pub mod random;
@@ -11,10 +12,9 @@ pub mod yielding;
 pub use random::Random;
 
 use std::future::Future;
-use std::io::Write;
 use std::path::{Path, PathBuf};
 use std::pin::pin;
-use std::process::{Command, Stdio};
+use std::process::Command;
 use std::sync::mpsc::{self, RecvTimeoutError};
 use std::task::{Context, Poll, Waker};
 use std::time::Duration;
@@ -99,16 +99,5 @@ pub fn saved_names(recorder: &Recorder, name: &str) -> String {
 /// `YOVANELUM_TTD` names the program.
 pub fn debugged(journal: &Path, commands: &str) -> Option<String> {
     let ttd = std::env::var_os("YOVANELUM_TTD")?;
-    let mut walk = Command::new(ttd)
-        .arg("debug")
-        .arg(journal)
-        .stdin(Stdio::piped())
-        .stdout(Stdio::piped())
-        .spawn()
-        .unwrap();
-    let mut input = walk.stdin.take().unwrap();
-    input.write_all(commands.as_bytes()).unwrap();
-    drop(input);
-    let written = walk.wait_with_output().unwrap().stdout;
-    Some(String::from_utf8(written).unwrap())
+    Some(console::written(&ttd, journal, commands))
 }

@@ -1,4 +1,5 @@
-//! A turn for the other tasks of a thread, also for tests of the package beside tokio.
+//! A turn for the other tasks of a thread, also for tests of the packages beside tokio and over
+//! tokio-recorded.
 
 use std::future::poll_fn;
 use std::task::Poll;

@@ -1,55 +1,28 @@
 //! Nanoseconds a receive of receivers on four threads, each of which receives all, recorded, with
 //! no recorder set, and of tokio: `cargo bench --bench side_by_side -- CALLS REPEATS`.
 
-use std::hint::black_box;
-use std::sync::Barrier;
-use std::thread;
-use std::time::{Duration, Instant};
-use yovanelum::Recorder;
+#[path = "../../tests/support/receiving.rs"]
+mod receiving;
 
-/// How many values are sent before they are received.
-const SENT: usize = 4096;
+use receiving::SENT;
+use std::hint::black_box;
+use yovanelum::Recorder;
 
 macro_rules! case {
     ($name:ident, $module:path) => {
-        /// Receivers in equal parts on four threads, which receive side by side what was sent
-        /// before. The sends aren't timed.
         fn $name(calls: usize, receivers: usize) -> f64 {
             use $module as channels;
             let (tx, rx) = channels::broadcast::channel(SENT);
             let mut all: Vec<_> = (1..receivers).map(|_| tx.subscribe()).collect();
             all.push(rx);
-            let rounds = (calls / (SENT * (receivers + 1))).max(1);
-            let parts: Vec<_> = all.chunks_mut(receivers.div_ceil(4)).collect();
-            let barrier = Barrier::new(parts.len() + 1);
-            let mut took = Duration::ZERO;
-            thread::scope(|scope| {
-                for part in parts {
-                    scope.spawn(|| {
-                        for _ in 0..rounds {
-                            barrier.wait();
-                            for _ in 0..SENT {
-                                for rx in &mut *part {
-                                    black_box(rx.try_recv().unwrap());
-                                }
-                            }
-                            barrier.wait();
-                        }
-                    });
-                }
-                for _ in 0..rounds {
-                    for value in 0..SENT {
-                        tx.send(value).unwrap();
-                    }
-                    // The others wait there by now. After it, they may be done before this thread
-                    // runs again.
-                    let start = Instant::now();
-                    barrier.wait();
-                    barrier.wait();
-                    took += start.elapsed();
-                }
-            });
-            took.as_nanos() as f64 / (rounds * SENT * receivers) as f64
+            let send = |value| {
+                tx.send(value).unwrap();
+            };
+            let receive = |rx: &mut channels::broadcast::Receiver<_>| {
+                black_box(rx.try_recv().unwrap());
+            };
+            let (received, took) = receiving::side_by_side(calls, all, send, receive);
+            took.as_nanos() as f64 / received as f64
         }
     };
 }

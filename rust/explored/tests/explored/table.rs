@@ -5,7 +5,6 @@ use crate::json::{hangs, number, text};
 use crate::natural::natural;
 use crate::{PROGRAMS, Program};
 use std::collections::{BTreeMap, BTreeSet};
-use std::process::Command;
 use std::sync::Mutex;
 use std::sync::atomic::{AtomicUsize, Ordering};
 use std::time::Instant;
@@ -195,13 +194,8 @@ impl Program {
     /// the run met it.
     fn meets(&self, condition: &str, order: &str) -> bool {
         let answer = self.folder.join("answer");
-        let mut command = Command::new("timeout");
-        let program = self.command();
+        let mut command = self.command_that_ends(20);
         let ran = command
-            .arg("20")
-            .arg(program.get_program())
-            .args(program.get_args())
-            .env("RUST_BACKTRACE", "0")
             .env("YOVANELUM_EXPLORE_ORDER", order)
             .env("YOVANELUM_EXPLORE_FOR", condition)
             .env("YOVANELUM_EXPLORE_TARGET", &self.folder)
