@@ -1,4 +1,4 @@
-// What the drawings of this page share.
+// Lines, texts, grounds and flags on a canvas or on the pen of a saved picture, for all drawings of the page.
 
 import { SMALL_BOLD } from "../base/palette.js";
 

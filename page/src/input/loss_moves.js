@@ -1,4 +1,4 @@
-// Moves by losses. Each is a jump, with the loss chosen that it leads to.
+// The jumps to losses that keys and buttons make: each chooses a loss, of those in losses_here.js, and moves the walk to its place.
 
 import { leaveAnswer } from "../base/tabs.js";
 import { storyOf } from "../draw/story.js";

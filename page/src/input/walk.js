@@ -13,7 +13,7 @@ import { conditionOf } from "../findings/text_search.js";
 import { wholeCall } from "../findings/whole_call.js";
 import { forgetAddress, pushAddress, putIntoAddress } from "./address.js";
 import { LossMoves } from "./loss_moves.js";
-import { LossWalk } from "./loss_walk.js";
+import { LossesHere } from "./losses_here.js";
 
 const NEIGHBOURS = 24;
 
@@ -26,7 +26,7 @@ export class Walk {
     /** @type {import("../run/shown.js").Shown} */
     this.shown = view.shown;
     this.shown.stop = fieldOf("condition").value.trim();
-    this.losses = new LossWalk(run, view, this.shown);
+    this.losses = new LossesHere(run, view, this.shown);
     this.lossMoves = new LossMoves(this);
     this.telling = new Telling(run, view, screen, this.losses, table, onFault);
     this.drawing = new Latest(() => this.draw(), onFault);

@@ -1,4 +1,4 @@
-// The account of a run: what was found in it. The file of names may have it, else it is made of what is found in the run.
+// What the page takes as the account of a run, from its names or from the worker (worker/account), and at which place it opens the run for it.
 
 const VERSION = 1;
 

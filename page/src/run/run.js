@@ -2,7 +2,7 @@
 
 import { isolated } from "../base/text.js";
 import { Actors } from "./actors.js";
-import { readEntry } from "./entries.js";
+import { placeUpTo, readEntry } from "./entries.js";
 import { behindLead, lostBefore, numberOf, timeOf, windowOf } from "./lead.js";
 import { Losses } from "./losses.js";
 import { MARK_NAMES } from "./marks.js";
@@ -242,16 +242,9 @@ export class Run {
     return this.orders[number];
   }
 
-  // The last place up to a stamp, behind the lead. Entries are in the order of their stamps.
+  // The last place up to a stamp, behind the lead.
   placeOf(stamp) {
-    let least = this.lead;
-    let most = this.lastPlace;
-    while (least < most) {
-      const middle = Math.ceil((least + most) / 2);
-      if (Number(this.entry(middle).stamp) <= stamp) least = middle;
-      else most = middle - 1;
-    }
-    return least;
+    return placeUpTo(stamp, this.lead, this.lastPlace, place => this.entry(place));
   }
 
   // The text of the value that was sent at a place.

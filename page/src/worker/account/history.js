@@ -1,7 +1,7 @@
 // What happened to the handles of a run, and which actors used them, for its account. It passes over the entries of a journal text once. What a window's
 // lead has is none of what anybody did.
 
-import { readEntry } from "../../run/entries.js";
+import { placeUpTo, readEntry } from "../../run/entries.js";
 import { behindLead, lostBefore, windowOf } from "../../run/lead.js";
 import { Scanner } from "../../run/scanner.js";
 import { countUpTo } from "../../run/values.js";
@@ -170,16 +170,9 @@ export class History {
     return readEntry(`#${place} ${line}`);
   }
 
-  // The last place up to a stamp. Entries are in the order of their stamps.
+  // The last place up to a stamp.
   placeOf(stamp) {
-    let least = 0;
-    let most = this.length;
-    while (least < most) {
-      const middle = Math.ceil((least + most) / 2);
-      if (Number(this.entry(middle).stamp) <= stamp) least = middle;
-      else most = middle - 1;
-    }
-    return least;
+    return placeUpTo(stamp, 0, this.length, place => this.entry(place));
   }
 
   // The actor that received by a receiver last, if it received by no other one and sent nothing on that channel.

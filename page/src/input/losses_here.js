@@ -1,4 +1,4 @@
-// Moves by losses: to where the next begins or ends, to the cause and the end of one, and to the next receiver that lags at the place.
+// The losses at the place of a walk, and which of them is chosen: the moves by losses and the card ask it, and it changes the choice and the view alone.
 
 import { byId } from "../base/dom.js";
 import { grouped } from "../base/numbers.js";
@@ -8,7 +8,7 @@ const AROUND = 1.5;
 const LEAST = 90;
 const NARROW_LEAST = 40;
 
-export class LossWalk {
+export class LossesHere {
   /** @param {import("../run/shown.js").Shown} shown */
   constructor(run, view, shown) {
     this.run = run;
