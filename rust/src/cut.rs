@@ -1,4 +1,5 @@
-//! Texts that are cut.
+//! The start of a text that has to be short, for the recorder: a value, a panic, or the name of a
+//! file.
 
 /// Returns the start of a text that has this many bytes at most, and ends with a whole character.
 pub(crate) fn start_of(text: &str, most: usize) -> &str {

@@ -1,4 +1,5 @@
-//! Locking of mutexes.
+//! How the whole crate locks a mutex: also one that is poisoned, and for a time alone where the
+//! thread may hold it itself.
 
 use std::sync::{Mutex, MutexGuard, TryLockError};
 use std::thread;

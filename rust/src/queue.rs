@@ -1,4 +1,5 @@
-//! A queue from which items leave at any time.
+//! A queue from which items leave at any time. A channel has its wakers in one, and the calls that
+//! wait.
 
 /// The number of an item in a queue. Of two items, the one that was added first has the lower
 /// number.

@@ -1,4 +1,5 @@
-//! A value that threads use in turn.
+//! A value that threads use in turn, and that a thread may use again within its own use. A
+//! broadcast keeps the values in it that several receivers clone.
 #![allow(unsafe_code)]
 
 use crate::lock::lock;

@@ -1,4 +1,5 @@
-//! The files of a journal.
+//! The files of a journal, found below a folder and read whole, for what an editor launches and for
+//! what it then steps through.
 
 use crate::{Answer, Refusal};
 use std::fs;
