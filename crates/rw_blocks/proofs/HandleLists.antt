@@ -12,18 +12,8 @@ use Rattle.rw_broadcast.specs.Machine.{position_at}
 use Rattle.rw_broadcast.specs.Shown.{Shown as Broadcast}
 use Rattle.rw_watch.specs.Machine.{mark_at}
 use Rattle.rw_watch.specs.Shown.{Shown as Watch}
+use Rattle.rw_blocks.proofs.Lists.{first_more}
 use Rattle.rw_blocks.specs.Json.{of_handles, handle_json, handles_json, receiver_json, receivers_json, watcher_json, watchers_json}
-
-range_more : (a n : ℕ) → range_with_len a (suc n) ≡ range_with_len a n ++ (a + n) ∷ []
-range_more a zero = let e : a ≡ a + 0 = omega arith in ap (λ (x : ℕ). x ∷ []) e
-range_more a (suc n) =
-    let e : a + 1 + n ≡ a + suc n = omega arith in
-    ap (λ (xs : List ℕ). a ∷ xs) (range_more (a + 1) n ∙ ap (λ (x : ℕ). range_with_len (a + 1) n ++ x ∷ []) e)
-
-first_more : (n : ℕ) → range_with_len 0 (n + 1) ≡ range_with_len 0 n ++ n ∷ []
-first_more n =
-    let e : 0 + n ≡ n = omega arith in
-    ap (range_with_len 0) (add-one n) ∙ range_more 0 n ∙ ap (λ (x : ℕ). range_with_len 0 n ++ x ∷ []) e
 
 of_one : (o : Option Data) → filter_map (λ (x : Option Data). x) (o ∷ []) ≡ option_to_list o
 of_one None = refl

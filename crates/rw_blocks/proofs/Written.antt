@@ -14,6 +14,7 @@ use Rattle.rw_broadcast.specs.Shown as b
 use Rattle.rw_watch.specs.Machine.{mark_at}
 use Rattle.rw_watch.specs.Shown as w
 use Rattle.rw_world.specs.Machines.{ChanShown}
+use Rattle.rw_blocks.proofs.Lists.{first_more}
 use Rattle.rw_blocks.specs.Handles.{handle_word, handle_words}
 use Rattle.rw_blocks.specs.BroadcastBlock as broadcast
 use Rattle.rw_blocks.specs.WatchBlock as watch
@@ -39,17 +40,6 @@ pub items_all : (f : ℕ → List ℕ) (start out xs : List ℕ) (i : ℕ) → o
 items_all f start out xs i so none = so ∙ ap (λ (ys : List ℕ). start ++ flat_map f ys) (take_all i xs (past_end xs i none))
 
 -- ---- the first numbers
-
-range_more : (a n : ℕ) → range_with_len a (suc n) ≡ range_with_len a n ++ (a + n) ∷ []
-range_more a zero = let e : a ≡ a + 0 = omega arith in ap (λ (x : ℕ). x ∷ []) e
-range_more a (suc n) =
-    let e : a + 1 + n ≡ a + suc n = omega arith in
-    ap (λ (xs : List ℕ). a ∷ xs) (range_more (a + 1) n ∙ ap (λ (x : ℕ). range_with_len (a + 1) n ++ x ∷ []) e)
-
-first_more : (n : ℕ) → range_with_len 0 (n + 1) ≡ range_with_len 0 n ++ n ∷ []
-first_more n =
-    let e : 0 + n ≡ n = omega arith in
-    ap (range_with_len 0) (add-one n) ∙ range_more 0 n ∙ ap (λ (x : ℕ). range_with_len 0 n ++ x ∷ []) e
 
 -- what is written for each number, in order
 numbers_more : (f : ℕ → List ℕ) (n : ℕ) → flat_map f (range_with_len 0 (n + 1)) ≡ flat_map f (range_with_len 0 n) ++ f n
