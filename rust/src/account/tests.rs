@@ -15,12 +15,20 @@ pub(super) fn account(channels: &[&str], entries: &[&str], names: &str) -> Accou
 }
 
 /// Returns the first line of each fact.
-fn heads(account: &Account) -> Vec<&str> {
+pub(super) fn heads(account: &Account) -> Vec<&str> {
     account
         .facts
         .iter()
         .map(|fact| fact.head.as_str())
         .collect()
+}
+
+/// Asserts that the facts have these first lines, and that the one with this index has these below
+/// its first.
+pub(super) fn assert_told(account: &Account, wanted: &[&str], index: usize, below: &[&str]) {
+    assert_eq!(heads(account), wanted);
+    let lines = [&wanted[index..=index], below].concat();
+    assert_eq!(account.facts[index].text(), lines);
 }
 
 /// Returns the orders of the facts.
@@ -238,13 +246,11 @@ fn a_look_and_a_mark_are_two_facts() {
         "`awaits` never looked at 1 of 2 changes of `state`",
         "`asks` never marked 2 of 2 changes of `state` as seen",
     ];
-    assert_eq!(heads(&found), wanted);
-    let wanted = [
-        wanted[0],
+    let below = [
         "  call 7    state.send(value 2)   actor 0  the last change",
         "  call 12   state.wait_for()      actor 0  its last look: value 2",
     ];
-    assert_eq!(found.facts[0].text(), wanted);
+    assert_told(&found, &wanted, 0, &below);
 }
 
 #[test]

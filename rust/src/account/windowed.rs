@@ -2,7 +2,7 @@
 //! what a recorder keeps: what its lead has is none of the run.
 
 use super::Account;
-use super::tests::account;
+use super::tests::{account, assert_told, heads};
 use crate::report::{Report, sarif};
 
 /// The story of a night: a broadcast of 16 is sent 5,000,000 values, of which `audit` receives all
@@ -63,11 +63,6 @@ fn names(lead: u64, bus: &str, state: &str, others: &str) -> String {
 
 const NEW_STATE: &str = r#""lead": 0, "calls": 0, "sent": null, "handles": [0, 1], "lags": {}"#;
 
-/// The first lines of the facts.
-fn heads(found: &Account) -> Vec<&str> {
-    found.facts.iter().map(|fact| fact.head.as_str()).collect()
-}
-
 #[test]
 fn a_receiver_that_nobody_asks_has_lost_what_it_really_lagged_by() {
     // Three receivers are there: number 41 lags by 5,000,000, and the lead lets it lag by 1. Number
@@ -90,14 +85,13 @@ fn a_receiver_that_nobody_asks_has_lost_what_it_really_lagged_by() {
     let found = account(&["broadcast 2", "watch 0"], &entries, &names);
     // Behind the lead, three sends overwrote three more values. The receiver that was created in
     // the window has two to read, and has lost none.
-    let wanted = [
-        "receiver 41 lost 5000003 of at most 7000005 values of `bus` (capacity 2)",
+    let wanted = ["receiver 41 lost 5000003 of at most 7000005 values of `bus` (capacity 2)"];
+    let below = [
         "  before the window   the overwriting began",
         "  the end             held, not read in the window",
         "  lost: 5000000 values, overwritten before the window; value 7000000, value 7000001, value 7000002",
     ];
-    assert_eq!(heads(&found), wanted[..1]);
-    assert_eq!(found.facts[0].text(), wanted);
+    assert_told(&found, &wanted, 0, &below);
     assert_eq!((found.facts[0].order, found.look), (4, 5));
     let json = found.to_json();
     for part in [
@@ -168,13 +162,11 @@ fn changes_of_the_lead_came_to_nobody() {
         "receiver 6 never looked at 2 of 2 changes of `state` in the window",
         "receiver 4 never looked at 1 of 2 changes of `state` in the window",
     ];
-    assert_eq!(heads(&found), wanted);
-    let wanted = [
-        wanted[1],
+    let below = [
         "  call 7   state.borrow_and_update()   actor 0  its last look: value 6",
         "  call 9   state.send(value 7)         actor 0  the last change",
     ];
-    assert_eq!(found.facts[1].text(), wanted);
+    assert_told(&found, &wanted, 1, &below);
 }
 
 #[test]
@@ -220,14 +212,12 @@ fn a_channel_that_is_there_from_its_opening_is_known_in_whole() {
         "receiver 1 lost 1 of 2 values of `bus` (capacity 1)",
         "`bus` closed, and its receiver was not told",
     ];
-    assert_eq!(heads(&found), wanted);
-    let wanted = [
-        wanted[0],
+    let below = [
         "  call 3    bus.send(value 2)   actor 0  overwrote value 1, which receiver 1 had not read",
         "  the end   held, never read",
         "  lost: value 1",
     ];
-    assert_eq!(found.facts[0].text(), wanted);
+    assert_told(&found, &wanted, 0, &below);
     assert_eq!(found.look, 3);
 }
 
