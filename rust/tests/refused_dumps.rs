@@ -5,13 +5,17 @@
 // WebAssembly has no threads.
 #![cfg(not(target_family = "wasm"))]
 
+#[path = "support/dumped_service.rs"]
+mod dumped_service;
 #[path = "support/refusing.rs"]
 mod refusing;
+mod support;
 
+use dumped_service::{Service, files_in};
 use refusing::{Refusing, refusing_others};
-use std::path::Path;
-use std::{env, fs, process};
-use yovanelum::{Recorder, broadcast, watch};
+use std::fs;
+use support::parts::Folder;
+use yovanelum::Recorder;
 
 #[global_allocator]
 static ALLOCATOR: Refusing = Refusing;
@@ -20,47 +24,10 @@ static ALLOCATOR: Refusing = Refusing;
 /// many here; for what is smaller, std ends the process.
 const LEAST: usize = 2 << 10;
 
-/// A service: a channel with texts on which receivers come and go, and a setting.
-struct Service {
-    prices: (broadcast::Sender<u64>, broadcast::Receiver<u64>),
-    setting: (watch::Sender<u64>, watch::Receiver<u64>),
-    value: u64,
-}
-
-impl Service {
-    fn begin(recorder: &Recorder) -> Service {
-        let service = Service {
-            prices: broadcast::channel(16),
-            setting: watch::channel(0),
-            value: 0,
-        };
-        recorder.name(&service.prices.0, "prices");
-        recorder.show(&service.prices.0, |price| format!("{price} EUR"));
-        service
-    }
-
-    /// Makes some calls, whose replies are those that tokio documents.
-    fn step(&mut self) {
-        self.value += 1;
-        let (tx, rx) = &mut self.prices;
-        assert_eq!(tx.send(self.value).unwrap(), 1);
-        assert_eq!(rx.try_recv(), Ok(self.value));
-        assert_eq!(
-            tx.subscribe().try_recv(),
-            Err(broadcast::error::TryRecvError::Empty)
-        );
-        self.setting.0.send(self.value).unwrap();
-        assert_eq!(*self.setting.1.borrow_and_update(), self.value);
-    }
-}
-
-fn files_in(folder: &Path) -> usize {
-    fs::read_dir(folder).map_or(0, |files| files.count())
-}
-
 #[test]
 fn each_request_of_a_dump_is_refused_and_the_service_goes_on() {
-    let folder = env::temp_dir().join(format!("refused-dumps-{}", process::id()));
+    let made = Folder::new("refused-memory");
+    let folder = made.0.join("dumps");
     let (mut requests, mut failed) = (0, 0);
     loop {
         let _ = fs::remove_dir_all(&folder);
@@ -88,17 +55,14 @@ fn each_request_of_a_dump_is_refused_and_the_service_goes_on() {
         let error = error.to_string();
         assert!(error.starts_with("no memory for the "), "{error}");
         assert_eq!((dumps.written(), dumps.failed()), (0, 1));
-        assert_eq!(files_in(&folder), 0);
+        assert!(files_in(&folder).is_empty());
         failed += 1;
         service.step();
         // There is memory again, and the dump has the last calls.
         let path = recorder.dump("asked for").wait().unwrap();
-        let journal = fs::read_to_string(&path).unwrap();
-        assert!(journal.ends_with(&format!(" = value {}\nend\n", service.value)));
-        fs::remove_dir_all(&folder).unwrap();
+        service.assert_is_last_of(&path);
     }
     // At least one for the calls of each channel, for their sites, leads, windows, and for the text
     // and the names.
     assert!(failed >= 12, "{failed}");
-    fs::remove_dir_all(folder).unwrap();
 }

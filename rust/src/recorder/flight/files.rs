@@ -72,8 +72,13 @@ fn write_whole(path: &Path, bytes: &[u8]) -> io::Result<()> {
 
 /// Removes all dumps of a folder but the last ones.
 pub(super) fn keep(folder: &Path, keep: usize) {
-    let Ok(files) = fs::read_dir(folder) else {
-        return;
+    let files = match fs::read_dir(folder) {
+        Ok(files) => files,
+        Err(error) => {
+            let folder = folder.display();
+            eprintln!("yovanelum: older dumps in {folder} aren't removed: {error}");
+            return;
+        }
     };
     let mut dumps: BTreeMap<String, BTreeSet<PathBuf>> = BTreeMap::new();
     for file in files.flatten() {
