@@ -1,4 +1,8 @@
-"""The edits of must-fail/ and tests/mutants/, as `rt must-fail` reads them."""
+"""The edits of must-fail/ and tests/mutants/, as `rt must-fail` reads them, and the plants of tests/plants."""
+import re
+
+# What makes the form of a body: its statements, branches and exits. An edit that leaves it changes expressions alone.
+FORM = re.compile(r";|=>|\b(?:let|if|else|match|for|while|loop|return)\b")
 
 
 class Misfit(Exception):
@@ -25,3 +29,16 @@ def pairs_of(text):
     if old:
         raise Misfit(f"no 'new:' follows 'old: {old}'")
     return pairs
+
+
+def changes_form(old, new):
+    """Whether the prover may refuse a change of a body for its form alone, since stored proofs cite it."""
+    return FORM.findall(old) != FORM.findall(new)
+
+
+def applied(text, old, new, where):
+    """A text with another one in the place of one that is there once."""
+    found = text.count(old)
+    if found != 1:
+        raise Misfit(f"in {where} its text stands {found} times, and not once: {old.strip()}")
+    return text.replace(old, new)
