@@ -1,0 +1,13 @@
+//! Sends so many values by the Rust crate, under a recorder: `crate NUMBER`.
+
+use yovanelum::{Recorder, broadcast};
+
+fn main() {
+    let number: u64 = std::env::args().nth(1).unwrap().parse().unwrap();
+    let recorder = Recorder::new();
+    let _installed = recorder.install();
+    let (sender, _receiver) = broadcast::channel(4);
+    for value in 0..number {
+        sender.send(value).unwrap();
+    }
+}
