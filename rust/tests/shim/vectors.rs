@@ -226,45 +226,52 @@ fn a_large_vector_that_gets_no_whole_block_takes_a_smaller_one() {
     assert!(items.into_iter().eq(0..=length as u64));
 }
 
-/// How many pages of a list's room are in memory.
-#[cfg(target_os = "linux")]
-fn pages_in_memory(items: &mut Vec<u64>) -> usize {
+/// How many pages of a vector's block are in memory, without its first and its last ones.
+#[cfg(all(target_os = "linux", target_arch = "x86_64"))]
+fn pages_in_memory(items: &Vec<u64>) -> usize {
     unsafe extern "C" {
         fn mincore(addr: *const u8, len: usize, pages: *mut u8) -> i32;
     }
-    // Where pages have more bytes, the first ones of the list are set.
-    let mut pages = vec![in Global; 0u8; items.capacity() * 8 / 4096].unwrap();
-    let start = items.as_slice().as_ptr().cast::<u8>();
-    let skip = start.align_offset(65_536);
-    let len = items.capacity() * 8 - 131_072;
-    // SAFETY: the range lies within the list's block, and there is a byte for each of its pages.
+    const PAGE: usize = 4096;
+    let mut pages = std::vec![0; items.capacity() * 8 / PAGE - 2];
+    let start = place(items).cast::<u8>();
+    let skip = start.align_offset(PAGE);
+    // SAFETY: these pages are in the vector's block, and there is a byte for each.
     let result = unsafe {
         mincore(
-            start.wrapping_add(skip),
-            len,
-            pages.as_mut_slice().as_mut_ptr(),
+            start.wrapping_add(skip + PAGE),
+            pages.len() * PAGE - PAGE,
+            pages.as_mut_ptr(),
         )
     };
     assert_eq!(result, 0);
     pages.iter().filter(|page| **page & 1 == 1).count()
 }
 
-#[cfg(target_os = "linux")]
+// Elsewhere pages may have another size.
+#[cfg(all(target_os = "linux", target_arch = "x86_64"))]
 #[test]
 fn what_a_copy_does_not_fill_of_its_block_takes_no_memory() {
     let (mut items, length) = of_a_mebibyte();
     items.clear();
-    assert!(pages_in_memory(&mut items) > 0);
+    assert!(pages_in_memory(&items) > 0);
     crate::large_pages::begin_to_give_back();
     items.extend_from_slice(&[7; 16]).unwrap();
-    assert_eq!((pages_in_memory(&mut items), items.capacity()), (0, length));
+    assert_eq!((pages_in_memory(&items), items.capacity()), (0, length));
     assert_eq!(items.as_slice(), [7; 16]);
-    // It grows by moves.
-    let (mut items, mut places) = (Vec::new(Global), std::vec::Vec::new());
+}
+
+#[test]
+fn a_vector_grows_by_moves_where_memory_is_given_back() {
+    crate::large_pages::begin_to_give_back();
+    let (mut items, mut capacities) = (Vec::new(Global), Plain::new());
+    let (_, length) = of_a_mebibyte();
     for n in 0..length as u64 {
+        let before = items.capacity();
         items.push(n).unwrap();
-        places.push(place(&items));
+        capacities.extend((items.capacity() > before).then_some(items.capacity() as u32));
     }
-    places.dedup();
-    assert!(places.len() > 4 && items.into_iter().eq(0..length as u64));
+    // It doubles, as without.
+    assert_eq!(capacities.last_chunk(), Some(&[1 << 15, 1 << 16, 1 << 17]));
+    assert!(items.into_iter().eq(0..length as u64));
 }
