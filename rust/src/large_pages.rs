@@ -1,7 +1,8 @@
-//! Large pages for large blocks, which affect only speed.
+//! How the system backs large blocks by memory. That affects speed, and how much memory is in use.
 #![allow(unsafe_code)]
 
 use std::mem::MaybeUninit;
+use std::sync::atomic::{AtomicBool, Ordering};
 
 /// Asks the system to back room by large pages, so that the first write to each 4 KiB of it isn't a
 /// page fault.
@@ -9,21 +10,63 @@ use std::mem::MaybeUninit;
 /// It changes no byte, and the system may not do it. Room smaller than a large page is left as it
 /// is.
 pub(crate) fn ask_for_large_pages<T>(room: &mut [MaybeUninit<T>]) {
-    #[cfg(all(target_os = "linux", not(miri)))]
-    {
-        unsafe extern "C" {
-            fn madvise(addr: *mut u8, len: usize, advice: i32) -> i32;
-        }
-        const PAGE: usize = 2 << 20;
-        const MADV_HUGEPAGE: i32 = 14;
-        let start: *mut u8 = room.as_mut_ptr().cast();
-        let skip = start.align_offset(PAGE);
-        let len = size_of_val(room).saturating_sub(skip) & !(PAGE - 1);
-        if len > 0 {
-            // SAFETY: the range lies within `room`, and this advice changes no byte of it.
-            unsafe { madvise(start.wrapping_add(skip), len, MADV_HUGEPAGE) };
-        }
-    }
-    #[cfg(not(all(target_os = "linux", not(miri))))]
-    let _ = room;
+    const LARGE_PAGE: usize = 2 << 20;
+    const MADV_HUGEPAGE: i32 = 14;
+    advise(room, LARGE_PAGE, MADV_HUGEPAGE);
 }
+
+/// Whether memory is given back to the system. It takes time, and an allocator gives back what it
+/// likes. So a process does it that runs for weeks.
+static GIVES_BACK: AtomicBool = AtomicBool::new(false);
+
+/// Has memory given back from now on.
+// The program `ttd` doesn't.
+#[allow(dead_code)]
+pub(crate) fn begin_to_give_back() {
+    GIVES_BACK.store(true, Ordering::Relaxed);
+}
+
+/// Whether memory is given back.
+pub(crate) fn gives_back() -> bool {
+    GIVES_BACK.load(Ordering::Relaxed)
+}
+
+/// Gives back the memory of room in which nothing is, if memory is given back. What an earlier use
+/// of its addresses has written is gone, and what isn't written again takes no memory.
+pub(crate) fn give_back_pages<T>(room: &mut [MaybeUninit<T>]) {
+    const MADV_DONTNEED: i32 = 4;
+    if gives_back() {
+        advise(room, page_size(), MADV_DONTNEED);
+    }
+}
+
+#[cfg(all(target_os = "linux", not(miri)))]
+fn page_size() -> usize {
+    unsafe extern "C" {
+        safe fn getpagesize() -> i32;
+    }
+    getpagesize() as usize
+}
+
+/// Gives the system an advice about the whole pages of room, which have this size.
+#[cfg(all(target_os = "linux", not(miri)))]
+fn advise<T>(room: &mut [MaybeUninit<T>], page: usize, advice: i32) {
+    unsafe extern "C" {
+        fn madvise(addr: *mut u8, len: usize, advice: i32) -> i32;
+    }
+    let start: *mut u8 = room.as_mut_ptr().cast();
+    let skip = start.align_offset(page);
+    let len = size_of_val(room).saturating_sub(skip) & !(page - 1);
+    if len > 0 {
+        // SAFETY: the range lies within `room`, in which nothing is.
+        unsafe { madvise(start.wrapping_add(skip), len, advice) };
+    }
+}
+
+#[cfg(not(all(target_os = "linux", not(miri))))]
+fn page_size() -> usize {
+    1
+}
+
+#[cfg(not(all(target_os = "linux", not(miri))))]
+fn advise<T>(_: &mut [MaybeUninit<T>], _: usize, _: i32) {}

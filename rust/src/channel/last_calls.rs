@@ -28,9 +28,9 @@ pub(crate) struct LastCalls {
     // The texts of values that were sent before, and may be retained.
     retained: VecDeque<(u64, Arc<str>)>,
     pub(super) handles: MadeHandles,
-    // If the handles of the table were numbered anew, those of before, where calls are kept by
-    // their previous numbers.
-    past: Option<PastHandles>,
+    // The handles of before the table was numbered anew, where calls are kept by their previous
+    // numbers.
+    past: PastHandles,
     times: Times,
 }
 
@@ -98,7 +98,7 @@ impl LastCalls {
             newer: Chunk::default(),
             retained: VecDeque::new(),
             handles: MadeHandles::default(),
-            past: None,
+            past: PastHandles::default(),
             times,
         }
     }
@@ -190,21 +190,17 @@ impl LastCalls {
     /// Says that the handles of the table have other numbers now. `before` has the previous ones,
     /// by which the core keeps the calls so far.
     pub(super) fn renumber(&mut self, before: &[u32]) {
-        let handles = self.handles.renumbered(before);
-        let previous = mem::replace(&mut self.handles, handles);
-        self.past = Some(PastHandles::of(previous, before));
-    }
-
-    /// Forgets the handles of before a renumbering, since no call is kept by their numbers.
-    pub(super) fn forget_past(&mut self) {
-        self.past = None;
+        self.past.renumber(&mut self.handles, before);
     }
 
     /// Returns the number by which the calls are kept, of a handle of the table with this number.
     /// `keeps_past` says whether they are kept by the previous numbers.
     pub(super) fn kept_number(&self, handle: u32, keeps_past: bool) -> u32 {
-        let past = self.past.as_ref().filter(|_| keeps_past);
-        past.map_or(handle, |past| past.number(handle))
+        if keeps_past {
+            self.past.number(handle)
+        } else {
+            handle
+        }
     }
 
     /// Notes that the last call waited.
@@ -257,9 +253,10 @@ impl LastCalls {
             cancelled: joined(chunks.map(|chunk| &*chunk.cancelled))?,
             texts: all_texts,
             names: joined(chunks.map(|chunk| &*chunk.names))?,
-            handles: match &self.past {
-                Some(past) if keeps_past => past.with(&self.handles)?,
-                _ => self.handles.copy()?,
+            handles: if keeps_past {
+                self.past.with(&self.handles)?
+            } else {
+                self.handles.copy()?
             },
             moments: joined(chunks.map(|chunk| &*chunk.moments))?,
         })

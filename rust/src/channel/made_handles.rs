@@ -4,6 +4,7 @@
 use super::CallSite;
 use crate::lists::reserved;
 use crate::source::rw_law::NoMemory;
+use std::mem;
 
 /// The handles of a table. Those that the table forgets are forgotten here too.
 #[derive(Default)]
@@ -59,17 +60,20 @@ impl MadeHandles {
         self.with_sites(&[])
     }
 
-    /// Returns these handles alone, which get the numbers 0, 1, 2, ..
-    pub(super) fn renumbered(&self, alive: &[u32]) -> MadeHandles {
-        MadeHandles {
-            survivors: alive.iter().map(|number| self.nth(*number)).collect(),
-            sites: alive.iter().map(|number| self.made_at(*number)).collect(),
-            next: self.nth(self.len()),
-        }
+    /// Becomes the list of those of other handles that are alive, which get the numbers 0, 1, 2, ..
+    fn be_renumbered(&mut self, before: &MadeHandles, alive: &[u32]) {
+        self.survivors.clear();
+        self.survivors
+            .extend(alive.iter().map(|number| before.nth(*number)));
+        self.sites.clear();
+        self.sites
+            .extend(alive.iter().map(|number| before.made_at(*number)));
+        self.next = before.nth(before.len());
     }
 }
 
 /// The handles of a table before it was renumbered.
+#[derive(Default)]
 pub(super) struct PastHandles {
     handles: MadeHandles,
     // The numbers of those that stayed.
@@ -77,11 +81,13 @@ pub(super) struct PastHandles {
 }
 
 impl PastHandles {
-    pub(super) fn of(handles: MadeHandles, alive: &[u32]) -> PastHandles {
-        PastHandles {
-            handles,
-            alive: alive.to_vec(),
-        }
+    /// Becomes what these handles are, since their table is renumbered. They get the numbers 0, 1,
+    /// 2, .. The memory of the lists is used again.
+    pub(super) fn renumber(&mut self, handles: &mut MadeHandles, alive: &[u32]) {
+        mem::swap(&mut self.handles, handles);
+        handles.be_renumbered(&self.handles, alive);
+        self.alive.clear();
+        self.alive.extend_from_slice(alive);
     }
 
     /// Returns the number that a handle had before, or would have had if it was created later.
@@ -108,8 +114,8 @@ mod tests {
         let mut handles = MadeHandles::default();
         let sites = [call_site(), None, call_site()];
         (0..6).for_each(|number| handles.add(sites[number % 3]));
-        let past = PastHandles::of(handles.copy().unwrap(), &[0, 2, 5]);
-        let mut handles = handles.renumbered(&[0, 2, 5]);
+        let mut past = PastHandles::default();
+        past.renumber(&mut handles, &[0, 2, 5]);
         assert_eq!(handles.len(), 3);
         assert_eq!([0, 1, 2, 3, 4].map(|it| handles.nth(it)), [0, 2, 5, 6, 7]);
         assert_eq!(
@@ -122,7 +128,7 @@ mod tests {
         let whole = past.with(&handles).unwrap();
         assert_eq!((whole.len(), whole.nth(7)), (8, 7));
         assert_eq!((whole.made_at(4), whole.made_at(7)), (sites[1], sites[0]));
-        let handles = handles.renumbered(&[2, 4]);
+        past.renumber(&mut handles, &[2, 4]);
         assert_eq!([0, 1, 2].map(|it| handles.nth(it)), [5, 7, 8]);
         assert_eq!([0, 1].map(|it| handles.made_at(it)), [sites[2], sites[0]]);
     }

@@ -292,7 +292,6 @@ impl ChannelState {
         if self.core.forget_past() {
             return;
         }
-        last.forget_past();
         if let Some(before) = self.core.renumber_last(Some(last.chunk())) {
             last.renumber(&before);
         }

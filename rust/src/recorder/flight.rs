@@ -17,6 +17,7 @@ pub(crate) use request::DumpRequest;
 use super::Recorder;
 use super::shared::Shared;
 use crate::backend::MOST_CHUNK;
+use crate::large_pages;
 use dumping::Dumping;
 use std::path::Path;
 use std::sync::Arc;
@@ -30,6 +31,7 @@ pub(crate) struct Flight {
 
 impl Flight {
     pub(super) fn new(calls_per_channel: usize) -> Flight {
+        large_pages::begin_to_give_back();
         Flight {
             calls_per_channel: calls_per_channel.clamp(1, MOST_CHUNK),
             dumping: Dumping::default(),

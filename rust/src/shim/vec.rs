@@ -2,9 +2,10 @@
 
 use super::alloc::{AllocError, AllocFailed, Global};
 use super::fallible;
-use super::large_pages::ask_for_large_pages;
+use super::large_pages::{ask_for_large_pages, give_back_pages, gives_back};
 use std::fmt;
 use std::io;
+use std::mem;
 use std::ops::{Deref, DerefMut};
 
 /// A block of this size is asked for in large pages. A vector that grows to it is moved to a whole
@@ -18,6 +19,11 @@ const WHOLE: usize = 2 * 1_048_576 * 32;
 /// Whether there are whole blocks. On Linux what isn't written needs only addresses. Elsewhere it
 /// may count as memory that is used.
 const HAS_WHOLE_BLOCKS: bool = cfg!(target_os = "linux");
+
+/// Where memory is given back, it is that of blocks of this size: of what isn't written in one, and
+/// of one that is dropped. A vector that grows to it is moved. So a process whose vectors come and
+/// go takes no more memory than they fill, however its allocator uses blocks again.
+const MANY_PAGES: usize = 64 << 10;
 
 /// Items on the heap.
 #[derive(PartialEq, Eq)]
@@ -69,7 +75,30 @@ impl<T> Vec<T> {
                 return Ok(());
             }
         }
+        if gives_back() && wanted.saturating_mul(size) >= MANY_PAGES {
+            return self.move_to(wanted);
+        }
         self.0.try_reserve(additional).map_err(|_| AllocError)
+    }
+
+    /// Moves the items to a block with room for so many. At an error nothing has changed.
+    fn move_to(&mut self, capacity: usize) -> Result<(), AllocError> {
+        let mut moved = Vec(std::vec::Vec::new());
+        let reserved = moved.0.try_reserve_exact(capacity);
+        reserved.map_err(|_| AllocError)?;
+        moved.give_back_spare();
+        moved.0.append(&mut self.0);
+        *self = moved;
+        Ok(())
+    }
+
+    /// Gives back the memory behind the items, if it is much.
+    #[inline]
+    fn give_back_spare(&mut self) {
+        let spare = self.0.spare_capacity_mut();
+        if size_of_val(spare) >= MANY_PAGES {
+            give_back_pages(spare);
+        }
     }
 
     /// Rattle's clauses: `S'.items ≡ S.items ++ value ∷ []`, or `S.items` if the result is an
@@ -153,6 +182,16 @@ impl<T> Vec<T> {
     }
 }
 
+impl<T> Drop for Vec<T> {
+    #[inline]
+    fn drop(&mut self) {
+        if self.0.capacity().saturating_mul(size_of::<T>()) >= MANY_PAGES {
+            self.0.clear();
+            self.give_back_spare();
+        }
+    }
+}
+
 impl<T: Copy> Vec<T> {
     /// Rattle's clause: `IfOk result (λ v. v.items ≡ items)`.
     pub fn from_slice(alloc: Global, items: &[T]) -> Result<Vec<T>, AllocError> {
@@ -164,8 +203,12 @@ impl<T: Copy> Vec<T> {
     /// Rattle's clause: `S'.items ≡ S.items ++ other`, or `S.items` if the result is an error.
     #[inline]
     pub fn extend_from_slice(&mut self, other: &[T]) -> Result<(), AllocError> {
+        let is_first = self.0.is_empty();
         self.reserve(other.len())?;
         self.0.extend_from_slice(other);
+        if is_first {
+            self.give_back_spare();
+        }
         Ok(())
     }
 }
@@ -218,8 +261,8 @@ impl<T> IntoIterator for Vec<T> {
 
     /// Rattle's clause: the iterator yields `S.items`, in this order.
     #[inline]
-    fn into_iter(self) -> std::vec::IntoIter<T> {
-        self.0.into_iter()
+    fn into_iter(mut self) -> std::vec::IntoIter<T> {
+        mem::take(&mut self.0).into_iter()
     }
 }
 

@@ -225,3 +225,53 @@ fn a_large_vector_that_gets_no_whole_block_takes_a_smaller_one() {
     assert!((length + 1..WHOLE).contains(&items.capacity()));
     assert!(items.into_iter().eq(0..=length as u64));
 }
+
+/// How many pages of a vector's block are in memory, without its first and its last ones.
+#[cfg(all(target_os = "linux", target_arch = "x86_64"))]
+fn pages_in_memory(items: &Vec<u64>) -> usize {
+    unsafe extern "C" {
+        fn mincore(addr: *const u8, len: usize, pages: *mut u8) -> i32;
+    }
+    const PAGE: usize = 4096;
+    let mut pages = std::vec![0; items.capacity() * 8 / PAGE - 2];
+    let start = place(items).cast::<u8>();
+    let skip = start.align_offset(PAGE);
+    // SAFETY: these pages are in the vector's block, and there is a byte for each.
+    let result = unsafe {
+        mincore(
+            start.wrapping_add(skip + PAGE),
+            pages.len() * PAGE - PAGE,
+            pages.as_mut_ptr(),
+        )
+    };
+    assert_eq!(result, 0);
+    pages.iter().filter(|page| **page & 1 == 1).count()
+}
+
+// Elsewhere pages may have another size.
+#[cfg(all(target_os = "linux", target_arch = "x86_64"))]
+#[test]
+fn what_a_copy_does_not_fill_of_its_block_takes_no_memory() {
+    let (mut items, length) = of_a_mebibyte();
+    items.clear();
+    assert!(pages_in_memory(&items) > 0);
+    crate::large_pages::begin_to_give_back();
+    items.extend_from_slice(&[7; 16]).unwrap();
+    assert_eq!((pages_in_memory(&items), items.capacity()), (0, length));
+    assert_eq!(items.as_slice(), [7; 16]);
+}
+
+#[test]
+fn a_vector_grows_by_moves_where_memory_is_given_back() {
+    crate::large_pages::begin_to_give_back();
+    let (mut items, mut capacities) = (Vec::new(Global), Plain::new());
+    let (_, length) = of_a_mebibyte();
+    for n in 0..length as u64 {
+        let before = items.capacity();
+        items.push(n).unwrap();
+        capacities.extend((items.capacity() > before).then_some(items.capacity() as u32));
+    }
+    // It doubles, as without.
+    assert_eq!(capacities.last_chunk(), Some(&[1 << 15, 1 << 16, 1 << 17]));
+    assert!(items.into_iter().eq(0..length as u64));
+}
