@@ -134,6 +134,12 @@ install_tool() {
 # and so the crate would be compiled once more for each.
 make_wrapper() { printf '#!/bin/sh\nexec "$@" %s\n' "${*:2}" >"$1" && chmod +x "$1"; }
 
+# Prints the names of the Rust crate's test programs: a file of rust/tests, or a folder with a main.rs.
+test_programs() {
+  local program
+  for program in "$top"/rust/tests/*.rs "$top"/rust/tests/*/main.rs; do basename "${program%/main.rs}" .rs; done
+}
+
 # Has cargo install the program, as users do but for the number of parts in which it is optimised, and sets `installed` to its path.
 install_program() {
   installed=$out/program/bin/ttd

@@ -63,7 +63,7 @@ def made_as_why_says(tab, folder, journals):
     failing.said()
     chance = random.Random(68)
     kinds = set()
-    for number in range(60):
+    for number in range(native.rounds(12, 60)):
         journal, names = random_run(chance)
         if names is not None:
             opening.put(folder, f"run{number}.names", names.encode())

@@ -45,3 +45,8 @@ def each(ask, cases):
     """The program's output for many cases, which run side by side."""
     with ThreadPoolExecutor(os.cpu_count()) as pool:
         return list(pool.map(lambda case: ask(*case), cases))
+
+
+def rounds(few, many):
+    """How often something random is done: so often, or as the second number says where the variable YOVANELUM_SLOW is set, as by `test slow`."""
+    return many if "YOVANELUM_SLOW" in os.environ else few

@@ -1,5 +1,6 @@
 """run.py BROWSER [NAME..]: runs the page's tests in a browser, all of them or those that are named. `--failing` in the place of names stands for those
-that open what failing tests have left, and `--others` for all but these, so that the two can run side by side. The last line counts them.
+that open what failing tests have left, and `--others` for all but these, so that the two can run side by side. Both leave out what is slow, which
+`--slow` stands for. The last line counts them.
 """
 import sys
 import tempfile
@@ -48,6 +49,7 @@ def bare(test):
     return run
 
 
+random_commands, spoiled_texts = bare(answers.random_commands), bare(answers.spoiled_texts)
 TESTS = [
     shown.pictures, shown.lagging_is_red, dark.dark_colours, shown.hostile_names, shown.refused_markup, shown.wrong_names, shown.spoken,
     shown.nothing_is_loaded, bidi.written_out, bidi.right_to_left, hands.keys, hands.loss_keys, hands.hurried_searches, hands.failed_search, hands.early_click, hands.stops,
@@ -61,8 +63,12 @@ TESTS = [
     shown.quick_walking, shown.many_handles, weak.weak_senders, weak.weak_rows, texts.large_numbers, texts.long_texts, speed.figures,
     *losses.TESTS, *lives.TESTS, *sources.TESTS, *failing.TESTS, *accounts.TESTS, *layout.TESTS, *search.TESTS, *story.TESTS, *against.TESTS, *windows.TESTS, *lowered.TESTS,
     beginning.first_calls, beginning.far_places, beginning.late_faults,
-    bare(answers.example_sessions), bare(answers.random_commands), bare(answers.spoiled_texts),
+    bare(answers.example_sessions), random_commands, spoiled_texts,
 ]
+
+# Those of a million calls, or of a thousand random cases of the debugger alone, which is built seldom; and those that `--slow` has more runs for.
+SLOW = {speed.figures, shown.large_runs, random_commands, spoiled_texts, *(test for test in failing.TESTS if failing.FULL in test.__name__)}
+LONGER = {accounts.made_as_why_says, layout.nothing_over_anything, windows.window_as_why_says}
 
 # Those that open what the tests of `failing` have left, which cargo runs once for all of them.
 OF_FAILING = {*accounts.TESTS, *against.TESTS, *failing.TESTS, *layout.TESTS, *search.TESTS, *story.TESTS, jumps.report_as_markdown}
@@ -94,8 +100,10 @@ def in_tab(test, browser, journals):
 
 def named(word):
     """The tests of this name, or else those whose names have it as a part."""
+    if word == "--slow":
+        return [test for test in TESTS if test in SLOW | LONGER]
     if word in ("--failing", "--others"):
-        return [test for test in TESTS if (test in OF_FAILING) == (word == "--failing")]
+        return [test for test in TESTS if test not in SLOW and (test in OF_FAILING) == (word == "--failing")]
     tests = [test for test in TESTS if test.__name__ == word] or [test for test in TESTS if word in test.__name__]
     if not tests:
         print(f"no test of the page has {word} in its name\n0 passed, 1 failed")

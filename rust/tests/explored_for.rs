@@ -9,11 +9,9 @@ use std::fs;
 use std::path::Path;
 use std::process::Output;
 use std::sync::OnceLock;
+use support::rounds;
 use support::workspace::{Workspace, in_turn, printed};
 use yovanelum::debugger::{Channel, Walk};
-
-/// How often a line is pasted that the search prints.
-const REPLAYS: usize = 20;
 
 /// The audit lags where it receives nothing until the third shop has sent. Each shop looks once,
 /// and sends if it sees what the shops before it sent.
@@ -121,7 +119,7 @@ fn a_receiver_that_can_lag_is_found_and_its_lines_bring_the_state_back() {
     let wanted = state(&files.join("orders_are_audited.journal"), place);
     assert!(wanted.1 > 0 && wanted.2 == 0, "{wanted:?}");
     let replay = line_after(&said, "replay: ");
-    for _ in 0..REPLAYS {
+    for _ in 0..rounds(3, 20) {
         let ran = run(&format!("YOVANELUM_KEEP=1 {replay} --nocapture"));
         let replayed = printed(&ran);
         assert!(ran.status.success(), "{replayed}");

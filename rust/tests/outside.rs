@@ -13,10 +13,8 @@ use std::fs;
 use std::path::{Path, PathBuf};
 use std::sync::OnceLock;
 use support::named::{checksum, member};
+use support::rounds;
 use support::workspace::{Workspace, in_turn, printed};
-
-/// How often a line is pasted that a failing test prints.
-const REPLAYS: usize = 10;
 
 /// Two bidders, of whom Bob is late. The test fails where the variable makes Ann wait for him.
 const RACE: &str = r#"
@@ -112,7 +110,7 @@ fn workspace() -> &'static Workspace {
         Workspace::new(
             "outside",
             &[
-                ("Cargo.toml", "[workspace]\nmembers = [\"shop\", \"depot\"]\nresolver = \"2\"\n\n[profile.dev]\npanic = \"abort\"\ndebug = false\nincremental = false\n"),
+                ("Cargo.toml", "[workspace]\nmembers = [\"shop\", \"depot\"]\nresolver = \"2\"\n\n[profile.dev]\ndebug = false\nincremental = false\n"),
                 (".cargo/config.toml", "[build]\ntarget-dir = \"made here\"\n"),
                 ("shop/Cargo.toml", "[package]\nname = \"my-shop\"\nversion = \"0.0.0\"\nedition = \"2021\"\n\n[dependencies]\nCRATE\n\n[[bin]]\nname = \"till\"\npath = \"src/bin/till.rs\"\n"),
                 ("shop/src/lib.rs", RACE),
@@ -151,7 +149,7 @@ fn replay_lines(printed: &str) -> Vec<String> {
 /// Asserts that this command makes all calls of the journal again and fails in the same way, each
 /// time that it is pasted.
 fn assert_brings_back(line: &str, name: &str) {
-    for _ in 0..REPLAYS {
+    for _ in 0..rounds(2, 10) {
         let run = workspace().shell(line).output().unwrap();
         let said = format!(
             "replay of {name}.journal: all 9 calls in the recorded order; the same failure"
@@ -283,6 +281,7 @@ fn each_target_has_its_own_files_and_its_line_brings_the_failure_back() {
 }
 
 #[test]
+#[ignore = "rust/test slow runs it: the crate is compiled once more"]
 fn a_line_has_the_flags_and_the_settings_of_the_build() {
     let _turn = in_turn();
     let test = "-p depot --test flagged -- ann_is_first --exact";
@@ -323,12 +322,15 @@ fn a_program_that_no_cargo_runs_is_replayed_as_it_was_started() {
 }
 
 #[test]
+#[ignore = "rust/test slow runs it: the crate is compiled once more"]
 fn a_program_that_aborts_at_a_panic_leaves_its_files() {
     let _turn = in_turn();
-    let run = workspace()
-        .shell("cargo run -p my-shop --example aborts")
-        .output()
-        .unwrap();
+    let aborting = |line: &str| {
+        let mut shell = workspace().shell(line);
+        shell.env("CARGO_PROFILE_DEV_PANIC", "abort");
+        shell.output().unwrap()
+    };
+    let run = aborting("cargo run -p my-shop --example aborts");
     let said = printed(&run);
     assert!(!run.status.success(), "{said}");
     let journal = files().join("my-shop/example-aborts/aborts.journal");
@@ -346,13 +348,13 @@ fn a_program_that_aborts_at_a_panic_leaves_its_files() {
         journal.display()
     );
     assert_eq!(replay_lines(&said), [line.as_str()]);
-    let again = workspace().shell(&line).output().unwrap();
+    let again = aborting(&line);
     let wanted = "yovanelum: replay of aborts.journal: all 1 calls in the recorded order; the same failure\n";
     assert!(printed(&again).contains(wanted), "{}", printed(&again));
     // The hook from before may end the process.
     fs::remove_file(&journal).unwrap();
     let line = "HOOK_ABORTS=1 cargo run -p my-shop --example aborts";
-    let hooked = workspace().shell(line).output().unwrap();
+    let hooked = aborting(line);
     assert!(!hooked.status.success());
     assert_whole(&journal, "my-shop", "aborts");
 }

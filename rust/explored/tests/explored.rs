@@ -9,6 +9,8 @@ mod json;
 #[path = "explored/natural.rs"]
 mod natural;
 mod programs;
+#[path = "explored/slow.rs"]
+mod slow;
 #[path = "explored/table.rs"]
 mod table;
 
@@ -207,20 +209,25 @@ fn assert_brought_back(name: &'static str, lines: &[&str], times: u64) {
     );
 }
 
-/// Asserts that no order of this program fails.
-fn assert_right(name: &'static str, lines: &[&str]) {
+/// Asserts that no order of this program fails, in so many runs.
+fn assert_right_in(runs: u64, name: &'static str, lines: &[&str]) {
     let program = Program::new(name);
-    let (passes, said, json) = program.explored(60, "0");
+    let (passes, said, json) = program.explored(runs, "0");
     assert!(passes, "{said}");
     assert!(
-        said.contains(&format!("explored {name}: all 60 runs passed")),
+        said.contains(&format!("explored {name}: all {runs} runs passed")),
         "{said}"
     );
     for line in lines {
         assert!(said.contains(line), "no `{line}` in {said}");
     }
-    assert_eq!(number(&json, "runs"), 60, "{json}");
+    assert_eq!(number(&json, "runs"), runs, "{json}");
     assert!(json.contains("\"failure\": null"), "{json}");
+}
+
+/// The same in 20 runs, which are too few to try each order with one switch.
+fn assert_right(name: &'static str, lines: &[&str]) {
+    assert_right_in(20, name, lines);
 }
 
 #[test]
@@ -304,26 +311,9 @@ fn time_is_a_choice_without_a_search_too() {
 }
 
 #[test]
-fn a_task_that_is_told_too_early_is_found() {
-    assert_found(
-        "told_too_early",
-        &["told_too_early hangs: everybody waits forever"],
-    );
-}
-
-#[test]
-fn a_message_that_a_server_loses_on_two_workers_is_found() {
-    let lines = [
-        "`connection 1` was held before channel 0.subscribe (",
-        "chat hangs: everybody waits forever",
-    ];
-    // Which worker polls what isn't chosen.
-    assert_brought_back("chat", &lines, 7);
-}
-
-#[test]
 fn a_paused_clock_stands_still_while_tasks_are_held() {
-    assert_right(
+    assert_right_in(
+        60,
         "paused_clock",
         &[" orders with at most one switch passed; "],
     );
@@ -336,7 +326,7 @@ fn a_long_timeout_never_ends() {
 
 #[test]
 fn what_comes_by_a_socket_is_waited_for() {
-    assert_right("socket", &[" orders with at most one switch passed; "]);
+    assert_right_in(60, "socket", &[" orders with at most one switch passed; "]);
 }
 
 #[test]
@@ -351,7 +341,8 @@ fn a_lock_that_is_held_over_calls_is_waited_for() {
 
 #[test]
 fn closures_within_closures_pass() {
-    assert_right(
+    assert_right_in(
+        60,
         "nested_closures",
         &[" orders with at most one switch passed; "],
     );
@@ -455,29 +446,6 @@ fn no_run_begins_later_than_it_may() {
         said.contains("explored double_claim: all 0 runs passed"),
         "{said}"
     );
-}
-
-/// Each takes seconds, since runs and replays hang.
-#[test]
-fn sessions_of_one_test_beside_each_other_keep_their_files() {
-    let journals = std::thread::scope(|scope| {
-        let explored = || {
-            let (passes, said, json) = Program::new("waits_forever").explored(100, "0");
-            assert!(!passes, "{said}");
-            let journal = text(&json, "journal");
-            let replay = said.lines().find(|line| line.starts_with("replay: "));
-            assert!(replay.unwrap().contains(&journal), "no {journal} in {said}");
-            journal
-        };
-        [(); 2]
-            .map(|()| scope.spawn(explored))
-            .map(|session| session.join().unwrap())
-    });
-    assert!(journals[0] != journals[1], "{journals:?}");
-    for journal in journals {
-        let names = fs::read_to_string(Path::new(&journal).with_extension("names")).unwrap();
-        assert!(Path::new(&journal).exists() && names.contains("waits_forever"));
-    }
 }
 
 #[test]

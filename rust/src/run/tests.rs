@@ -9,12 +9,12 @@ use crate::word::Word;
 use model::Model;
 use std::process::Command;
 
-/// How many random runs are made: 1,000, or as many as the variable `YOVANELUM_RUNS` says.
+/// How many random runs are made: 200, or as many as the variable `YOVANELUM_RUNS` says.
 pub(crate) fn runs() -> u64 {
     match std::env::var("YOVANELUM_RUNS") {
         Ok(wanted) => wanted.parse().unwrap(),
         Err(_) if cfg!(miri) => 20,
-        Err(_) => 1000,
+        Err(_) => 200,
     }
 }
 

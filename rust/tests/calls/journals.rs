@@ -275,34 +275,3 @@ fn a_hundred_actors_share_64_numbers() {
     );
     assert_eq!(accepted(&recorder, "hundred"), 300);
 }
-
-#[test]
-fn at_a_full_journal_recording_ends_and_calls_go_on() {
-    let recorder = Recorder::new();
-    let _entered = recorder.enter();
-    let (tx, mut rx) = broadcast::channel(2);
-    let (other, mut from_other) = broadcast::channel(2);
-    recorder.show(&other, |value| format!("{value} sent"));
-    for value in 0..1_048_577u64 {
-        assert_eq!(tx.send(value).unwrap(), 1);
-        if value % 100_000 == 0 {
-            other.send(value).unwrap();
-        }
-    }
-    assert_eq!((tx.len(), rx.len()), (2, 1_048_577));
-    assert_eq!(
-        rx.try_recv(),
-        Err(broadcast::error::TryRecvError::Lagged(1_048_575))
-    );
-    assert_eq!(rx.try_recv(), Ok(1_048_575));
-    assert_eq!(rx.try_recv(), Ok(1_048_576));
-    // Calls on the other channel aren't recorded any more either.
-    let before = recorder.len();
-    other.send(0).unwrap();
-    assert!(from_other.try_recv().is_err());
-    drop((tx, rx, other, from_other));
-    assert_eq!(recorder.len(), before);
-    let names = recorder.names();
-    assert!(names.contains(r#""10": "1000000 sent"}"#), "{names}");
-    assert_eq!(accepted(&recorder, "full"), 1_048_576 + 11);
-}

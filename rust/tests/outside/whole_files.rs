@@ -2,6 +2,7 @@
 //! be written.
 
 use crate::support::named::member;
+use crate::support::rounds;
 use crate::support::workspace::{Workspace, in_turn, printed};
 use crate::{assert_brings_back, assert_whole, files, program, replay_lines, workspace};
 use std::collections::BTreeMap;
@@ -11,9 +12,6 @@ use std::path::{Path, PathBuf};
 use std::process::{Child, ChildStderr, Command, Stdio};
 use std::thread;
 use std::time::{Duration, SystemTime};
-
-/// How many rounds two processes write their files side by side.
-const ROUNDS: usize = 50;
 
 /// Returns the command that runs a failing test by its program.
 fn command_of(program: &Path) -> Command {
@@ -58,7 +56,7 @@ fn the_files_of_processes_side_by_side_are_whole() {
     let depot = program("depot", "my-bus");
     let journals = [("my-shop", &shop), ("depot", &depot)]
         .map(|(package, _)| files().join(package).join("test-my-bus/race.journal"));
-    for round in 0..ROUNDS {
+    for round in 0..rounds(10, 50) {
         if round > 0 {
             // Else it counts as one of a process that runs at the same time.
             wait_until_written_before(&journals[1]);

@@ -44,6 +44,13 @@ pub fn in_time<R: Send + 'static>(act: impl FnOnce() -> R + Send + 'static) -> R
         .unwrap_or_else(|panicked| panic::resume_unwind(panicked))
 }
 
+/// How often something is done: so often, or as the second number says where the variable
+/// `YOVANELUM_SLOW` is set, as by `rust/test slow`.
+pub fn rounds(few: usize, many: usize) -> usize {
+    let is_slow = std::env::var_os("YOVANELUM_SLOW").is_some();
+    if is_slow { many } else { few }
+}
+
 /// The stamps of a journal's entries.
 pub fn stamps(journal: &str) -> Vec<u64> {
     let entries = journal.lines().filter(|line| line.contains(" = "));

@@ -264,7 +264,7 @@ fn each_request_of_a_random_stream_has_a_response() {
     let (journal, _) = save_bus(&folder, "bus");
     let before = contents(&folder.0);
     let (mut asked, mut answered) = (0, 0);
-    for seed in 1..=runs(10_000) {
+    for seed in 1..=runs(500) {
         let mut random = Random::new(seed);
         let values = Values { journal: &journal };
         let mut stream = vec![];
@@ -310,7 +310,7 @@ fn each_request_of_a_random_stream_has_a_response() {
 
 #[test]
 fn streams_that_are_no_messages_end_with_a_fault() {
-    for seed in 1..=runs(10_000) / 10 {
+    for seed in 1..=runs(500) / 10 {
         let mut random = Random::new(seed);
         let count = random.below(200);
         let bytes: Vec<u8> = (0..count)

@@ -92,7 +92,7 @@ fn random_runs_are_shown_as_by_the_console() {
         return;
     };
     let folder = Folder::new();
-    for seed in 1..=runs(1000) {
+    for seed in 1..=runs(50) {
         let journal = save(&folder, seed);
         let text = fs::read_to_string(&journal).unwrap();
         let calls = text.lines().filter(|line| line.contains(" = ")).count();

@@ -17,7 +17,7 @@ const REPLAYS: usize = 100;
 const BESIDE: usize = 20;
 
 /// The programs that have a bug are those before this one.
-const FIRST_RIGHT: &str = "chat_on_one_thread";
+pub const FIRST_RIGHT: &str = "chat_on_one_thread";
 
 fn programs() -> impl Iterator<Item = (&'static str, fn())> {
     let only = env::var("ONLY").ok();

@@ -304,13 +304,13 @@ impl Pair {
     }
 }
 
-/// How many runs of random calls are compared: 5,000, or as many as the variable `YOVANELUM_RUNS`
+/// How many runs of random calls are compared: 500, or as many as the variable `YOVANELUM_RUNS`
 /// says. Miri needs a second for each.
 fn seeds() -> u64 {
     match std::env::var("YOVANELUM_RUNS") {
         Ok(wanted) => wanted.parse().unwrap(),
         Err(_) if cfg!(miri) => 10,
-        Err(_) => 5_000,
+        Err(_) => 500,
     }
 }
 

@@ -53,15 +53,16 @@ fn holds(limit: &Limit) {
     }
 }
 
-/// The table. After `to` more is refused, and after `of` no more can be asked for.
+/// The table. After `to` more is refused, and after `of` no more can be asked for. Rows that are `slow` run where they are asked for.
 macro_rules! limits {
-    ($($function:literal $word:ident $most:literal, $seconds:literal s: $part:ident::$name:ident;)+) => {
+    ($($function:literal $word:ident $most:literal, $seconds:literal s $($slow:ident)?: $part:ident::$name:ident;)+) => {
         /// The names of the rows.
         const ROWS: &[&str] = &[$($function),+];
 
         $(
             mod $name {
                 #[test]
+                $(#[ignore = "tests/core/test slow runs it"] #[doc = stringify!($slow)])?
                 fn at_its_limit() {
                     super::holds(&super::Limit {
                         function: $function,
@@ -82,32 +83,32 @@ limits! {
     "Broadcast, handles" to 65_536, 2 s: channels::broadcast_handles;
     "Watch, handles" to 65_536, 2 s: channels::watch_handles;
     "open, channels" to 64, 2 s: channels::worlds;
-    "Book::take" to 1_048_576, 2 s: recorded::book;
-    "Ledger::take, entries_of" to 1_048_576, 4 s: recorded::ledger;
+    "Book::take" to 1_048_576, 2 s slow: recorded::book;
+    "Ledger::take, entries_of" to 1_048_576, 4 s slow: recorded::ledger;
     "Book::take, stamps" to 4_611_686_018_427_387_904, 2 s: recorded::stamps;
     "RecentCalls::take, stamps" to 2_305_843_009_213_693_952, 2 s: recorded::recent_stamps;
-    "RecentCalls::open, a chunk" of 524_288, 4 s: recorded::recent_chunk;
+    "RecentCalls::open, a chunk" of 524_288, 4 s slow: recorded::recent_chunk;
     "RunDraft::push, actors" to 64, 2 s: recorded::draft_actors;
     "RunDraft::push, stamps" to 4_611_686_018_427_387_904, 2 s: recorded::draft_stamps;
-    "RunDraft::push" to 1_048_576, 2 s: recorded::draft;
-    "merge_all" of 1_048_576, 4 s: recorded::merged;
+    "RunDraft::push" to 1_048_576, 2 s slow: recorded::draft;
+    "merge_all" of 1_048_576, 4 s slow: recorded::merged;
     "merge_all, refusal_to_merge, channels" of 64, 2 s: recorded::merged_channels;
-    "merge_calls" of 1_048_576, 2 s: recorded::merged_calls;
-    "Recording::call" to 1_048_576, 2 s: recorded::recording;
-    "Recording::call, after its end" of 2_097_152, 2 s: recorded::unrecorded;
-    "Lead::play" to 1_048_576, 8 s: recorded::window;
+    "merge_calls" of 1_048_576, 2 s slow: recorded::merged_calls;
+    "Recording::call" to 1_048_576, 2 s slow: recorded::recording;
+    "Recording::call, after its end" of 2_097_152, 2 s slow: recorded::unrecorded;
+    "Lead::play" to 1_048_576, 8 s slow: recorded::window;
     "Flight::of, stamps" to 2_305_843_009_213_693_952, 2 s: recorded::flight_stamps;
     "Lead::play, stamps" to 4_611_686_018_427_387_904, 2 s: recorded::window_stamps;
     "Kept::lead, handles" to 65_534, 2 s: recorded::window_handles;
     "Kept::lead, handles of the window" to 65_535, 2 s: recorded::window_creates;
-    "Kept::lead, sends" to 1_048_576, 4 s: recorded::lead_sends;
+    "Kept::lead, sends" to 1_048_576, 4 s slow: recorded::lead_sends;
     "Cut::add" to 64, 2 s: recorded::cut_channels;
-    "Cut::run, RunReader::read" of 1_048_576, 8 s: recorded::cut_calls;
+    "Cut::run, RunReader::read" of 1_048_576, 8 s slow: recorded::cut_calls;
     "Desk::open, actors" to 64, 2 s: desks::actors;
-    "Desk::call, Desk::close" to 1_048_576, 4 s: desks::calls;
+    "Desk::call, Desk::close" to 1_048_576, 4 s slow: desks::calls;
     "Desk::call, a ring" of 65_536, 2 s: desks::ring;
     "SeatDesk::open, actors" to 64, 2 s: desks::seats;
-    "SeatDesk::call, SeatDesk::close" to 1_048_576, 6 s: desks::seat_calls;
+    "SeatDesk::call, SeatDesk::close" to 1_048_576, 6 s slow: desks::seat_calls;
     "SeatDesk::call, a ring" of 65_536, 2 s: desks::seat_ring;
     "HandOff::open" of 64, 2 s: desks::hand_off;
     "Script::read, a line" to 256, 2 s: texts::line;
@@ -115,27 +116,27 @@ limits! {
     "Script::read, a capacity" to 65_536, 2 s: texts::script_capacity;
     "Script::read, actors" to 64, 2 s: texts::script_actors;
     "Script::read, a name" to 16, 2 s: texts::script_name;
-    "Script::read, run_one" to 1_048_576, 4 s: texts::steps;
-    "read, write, salvage" to 1_048_576, 12 s: texts::journal;
+    "Script::read, run_one" to 1_048_576, 4 s slow: texts::steps;
+    "read, write, salvage" to 1_048_576, 12 s slow: texts::journal;
     "read, channels" to 64, 2 s: texts::journal_channels;
     "read, a capacity" to 65_536, 2 s: texts::journal_capacity;
     "read, a line" to 256, 2 s: texts::journal_line;
     "read, actors" to 64, 2 s: texts::journal_actors;
     "read, stamps" to 4_611_686_018_427_387_904, 2 s: texts::journal_stamps;
     "session, a line" to 256, 2 s: texts::session_line;
-    "session, bytes" to 268_435_456, 12 s: texts::session_bytes;
-    "debug, bytes" to 268_435_456, 12 s: texts::debug_bytes;
+    "session, bytes" to 268_435_456, 12 s slow: texts::session_bytes;
+    "debug, bytes" to 268_435_456, 12 s slow: texts::debug_bytes;
     "debug, searches" of 4_000, 3 s: texts::debug_searches;
     "debug, indexes" of 257, 2 s: texts::debug_indexes;
-    "read_whole" to 268_435_456, 4 s: texts::bytes;
-    "losses_of, losses" of 524_287, 2 s: found::losses;
-    "starts_of, losses" of 524_287, 4 s: found::starts;
+    "read_whole" to 268_435_456, 4 s slow: texts::bytes;
+    "losses_of, losses" of 524_287, 2 s slow: found::losses;
+    "starts_of, losses" of 524_287, 4 s slow: found::starts;
     "closings_of, late readers" of 65_534, 2 s: found::late_readers;
     "totals_of, receivers" of 65_534, 2 s: found::totals;
     "last_receipts_of, receivers" of 65_534, 2 s: found::receipts;
     "lives_of, handles" of 65_534, 2 s: found::lives;
-    "values_of, values_between, values" of 1_048_576, 4 s: found::values;
-    "peaks_of, stretches" of 1_048_576, 4 s: found::peaks;
-    "Findings::read" of 1_048_576, 8 s: found::findings;
-    "HitIndex::build" of 1_048_576, 3 s: found::hits;
+    "values_of, values_between, values" of 1_048_576, 4 s slow: found::values;
+    "peaks_of, stretches" of 1_048_576, 4 s slow: found::peaks;
+    "Findings::read" of 1_048_576, 8 s slow: found::findings;
+    "HitIndex::build" of 1_048_576, 3 s slow: found::hits;
 }

@@ -1,0 +1,58 @@
+//! Tests that take long, since runs hang or are many: `rust/test slow` runs them.
+
+use crate::json::text;
+use crate::{PROGRAMS, Program, assert_brought_back, assert_found, assert_right_in};
+use std::fs;
+use std::path::Path;
+
+#[test]
+#[ignore = "rust/test slow runs it"]
+fn a_task_that_is_told_too_early_is_found() {
+    assert_found(
+        "told_too_early",
+        &["told_too_early hangs: everybody waits forever"],
+    );
+}
+
+#[test]
+#[ignore = "rust/test slow runs it"]
+fn a_message_that_a_server_loses_on_two_workers_is_found() {
+    let lines = [
+        "`connection 1` was held before channel 0.subscribe (",
+        "chat hangs: everybody waits forever",
+    ];
+    // Which worker polls what isn't chosen.
+    assert_brought_back("chat", &lines, 7);
+}
+
+/// Each takes seconds, since runs and replays hang.
+#[test]
+#[ignore = "rust/test slow runs it"]
+fn sessions_of_one_test_beside_each_other_keep_their_files() {
+    let journals = std::thread::scope(|scope| {
+        let explored = || {
+            let (passes, said, json) = Program::new("waits_forever").explored(100, "0");
+            assert!(!passes, "{said}");
+            let journal = text(&json, "journal");
+            let replay = said.lines().find(|line| line.starts_with("replay: "));
+            assert!(replay.unwrap().contains(&journal), "no {journal} in {said}");
+            journal
+        };
+        [(); 2]
+            .map(|()| scope.spawn(explored))
+            .map(|session| session.join().unwrap())
+    });
+    assert!(journals[0] != journals[1], "{journals:?}");
+    for journal in journals {
+        let names = fs::read_to_string(Path::new(&journal).with_extension("names")).unwrap();
+        assert!(Path::new(&journal).exists() && names.contains("waits_forever"));
+    }
+}
+
+#[test]
+#[ignore = "rust/test slow runs it"]
+fn right_programs_pass_in_many_runs() {
+    let right = PROGRAMS.iter().map(|(name, _)| *name);
+    let right = right.skip_while(|name| *name != crate::table::FIRST_RIGHT);
+    right.for_each(|name| assert_right_in(60, name, &[]));
+}
