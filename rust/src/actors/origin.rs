@@ -264,6 +264,19 @@ mod tests {
     }
 
     #[test]
+    fn tasks_of_one_line_of_two_files_are_counted_apart() {
+        let [one, other] = [include!("origin/line.rs"), include!("origin/other_line.rs")];
+        assert_eq!((one.line(), other.line()), (1, 1));
+        let mut spawned = Spawned {
+            recorder: 1,
+            by: None,
+            counts: Vec::new(),
+        };
+        let counts = [one, other, one, other].map(|at| spawned.count(at));
+        assert_eq!(counts, [1, 1, 2, 2]);
+    }
+
+    #[test]
     fn a_name_has_the_end_of_a_path() {
         for (file, wanted) in [
             ("build.rs", "build.rs"),

@@ -270,6 +270,20 @@ mod tests {
     }
 
     #[test]
+    fn an_order_that_is_still_run_was_not_tried() {
+        let schedule = schedule(&[(2, Turn::Same)]);
+        let mut search = Search::new(4, &From::Start, false);
+        let first = search.next().unwrap();
+        search.passed(&first, &schedule);
+        // The one order with a switch is run.
+        let second = search.next().unwrap();
+        assert_eq!(search.waiting(1), 1);
+        assert_eq!(search.all_with_at_most(), Some(0));
+        search.passed(&second, &schedule);
+        assert_eq!(search.all_with_at_most(), Some(1));
+    }
+
+    #[test]
     fn a_timer_begins_the_search_anew() {
         let mut schedule = schedule(&[(2, Turn::Same)]);
         schedule.has_timers = true;

@@ -196,12 +196,41 @@ fn a_wait_that_began_before_dropped_handles_were_taken_out_has_its_receiver() {
     for _ in 0..150 {
         drop(prices.subscribe());
     }
-    let names = recorder.names();
-    let window = &windows(&names)[0];
-    let waiting = member(&names, "waiting");
+    assert_eq!(waiting_in(&recorder.names()).1, Some(302));
+}
+
+/// The handle in the journal whose call waits, and how many its channel had created before it.
+fn waiting_in(names: &str) -> (usize, Option<u64>) {
+    let waiting = member(names, "waiting");
     let handle = waiting.split("\"handle\": ").nth(1).unwrap();
     let handle: usize = handle.split([',', '}']).next().unwrap().parse().unwrap();
-    assert_eq!(window.handles[handle], Some(302));
+    (handle, windows(names)[0].handles[handle])
+}
+
+#[test]
+fn a_wait_has_the_number_of_its_receiver_in_the_journal() {
+    let recorder = Recorder::flight(10);
+    let _entered = recorder.enter();
+    let (prices, mut chart) = broadcast::channel::<u32>(4);
+    (0..4).for_each(|_| drop(prices.subscribe()));
+    let mut audit = prices.subscribe();
+    let mut wait = Box::pin(audit.recv());
+    assert!(super::support::poll_once(wait.as_mut()).is_none());
+    // The four that were dropped have no number behind the lead.
+    (0..40).for_each(|_| assert!(chart.try_recv().is_err()));
+    assert_eq!(waiting_in(&recorder.names()), (2, Some(6)));
+}
+
+#[test]
+fn as_many_handles_are_alive_as_a_lead_has_room_for() {
+    for (receivers, is_recorded) in [(65_532, true), (65_533, false)] {
+        let recorder = Recorder::flight(1_000);
+        let _entered = recorder.enter();
+        let (prices, _chart) = broadcast::channel::<u32>(4);
+        let _all: Vec<_> = (0..receivers).map(|_| prices.subscribe()).collect();
+        assert_eq!(recorder.journal().is_ok(), is_recorded);
+        assert_eq!(recorder.names().contains("\"handles\": 1"), !is_recorded);
+    }
 }
 
 #[test]

@@ -263,3 +263,24 @@ fn a_text_has_its_findings_and_calls() {
     let calls = calls_of(TEXT).unwrap();
     assert_eq!(calls.as_slice(), &CALLS[..]);
 }
+
+/// Lines in the place of the fourth, by which a text of one broadcast begins otherwise, and its first fault.
+static FAULTS: [(&[u8], TextFault); 5] = [
+    (b"1 0 0 sent 0 7 = sent 1\nend\n", TextFault::Malformed(4)),
+    (
+        b"1 64 0 send 0 7 = sent 1\nend\n",
+        TextFault::LimitExceeded(4),
+    ),
+    (b"0 0 0 send 0 7 = sent 1\nend\n", TextFault::WrongOrder(4)),
+    (b"1 0 0 send 0 7 = sent 2\nend\n", TextFault::WrongReply(4)),
+    (b"1 0 0 send 0 7 = sent 1\n", TextFault::Truncated),
+];
+
+#[test]
+fn a_faulty_text_has_its_first_fault_and_memory_is_not_blamed() {
+    for (lines, fault) in &FAULTS {
+        let text = [b"ttd-journal 2\nbroadcast 2\nsteps\n", *lines].concat();
+        assert_eq!(Findings::read(Global, &text).err(), Some(*fault));
+        assert_eq!(RunReader::read(Global, &text).err(), Some(*fault));
+    }
+}

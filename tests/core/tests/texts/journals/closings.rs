@@ -13,7 +13,7 @@ type Row = (
     &'static [LateReader],
 );
 
-static ROWS: [Row; 6] = [
+static ROWS: [Row; 7] = [
     (
         "open_at_the_end",
         b"broadcast 2\n0 0 clone-sender 0\n0 0 drop 0\n0 0 send 2 1\n",
@@ -74,6 +74,20 @@ static ROWS: [Row; 6] = [
             receiver: 1,
             told: Some(4),
             read_on: 1,
+        }],
+    ),
+    (
+        "told_by_has_changed",
+        b"watch 4\n0 0 drop 0\n0 0 borrow 1\n0 0 has-changed 1\n",
+        &[Closing {
+            channel: 0,
+            place: 1,
+        }],
+        &[LateReader {
+            channel: 0,
+            receiver: 1,
+            told: Some(3),
+            read_on: 0,
         }],
     ),
     (

@@ -2,7 +2,9 @@
 
 use crate::texts::rows::{OVERRUN, run_of};
 use proved::Global;
-use proved::rw_findings::{BroadcastCounts, Counts, Totals, WatchCounts, totals_of};
+use proved::rw_findings::{
+    BroadcastCounts, Counts, Totals, WatchCounts, last_receipts_of, totals_of,
+};
 use proved::rw_journal::Run;
 
 /// What a script is about, its lines, and the totals of its run.
@@ -190,5 +192,29 @@ fn are_counted((name, script, told): &Row) {
 fn totals_are_counted() {
     for row in &ROWS {
         are_counted(row);
+    }
+}
+
+/// What a receiver of a watch does, and where it was last given a value. Of its calls `borrow` and `update` give it one.
+static RECEIPTS: [(&[u8], u64); 4] = [
+    (b"watch 4\n0 0 borrow 1\n0 0 send 0 5\n0 0 changed 1\n", 1),
+    (
+        b"watch 4\n0 0 send 0 5\n0 0 update 1\n0 0 has-changed 1\n",
+        2,
+    ),
+    (b"watch 4\n0 0 send 0 5\n0 0 changed 1\n", 0),
+    (
+        b"broadcast 2\n0 0 send 0 5\n0 0 try-recv 1\n0 0 try-recv 1\n",
+        2,
+    ),
+];
+
+#[test]
+fn a_receiver_was_last_given_a_value_where_a_call_returned_one() {
+    for (script, place) in &RECEIPTS {
+        let run = run_of(script);
+        let totals = totals_of(Global, &run).unwrap();
+        let receipts = last_receipts_of(Global, &run, &totals).unwrap();
+        assert_eq!(receipts.as_slice(), [*place]);
     }
 }
