@@ -127,21 +127,6 @@ fn run_book<M: Reversible<Call = RowCall<ChanCall<u64>>, Reply = ChanReply<u64>>
     Ok((book, waits))
 }
 
-/// Like `run_book`, on the world that the script opens.
-fn run_world(alloc: Global, script: &Script) -> Result<(Book<World<u64>>, Option<u64>), NoMemory>
-    ensures opened { IfOk result (λ ran. opening_of of_world ran.0 ≡ opening_row script.now.specs) }
-    ensures entries { IfOk result (λ ran. ran.0.entries ≡ journal_of of_world (opening_row script.now.specs) 0 (run_of script.now).calls) }
-    ensures waits { IfOk result (λ ran. ran.1 ≡ (run_of script.now).waits) }
-{
-    specified::<u64>();
-    documented::<u64>();
-    match open(alloc, script.specs()) {
-        Ok(world) => run_book(alloc, world, script),
-        Err(OpenFault::NoMemory) => Err(NoMemory),
-        Err(_) => unreachable!(),
-    }
-}
-
 /// A script that was run: the specs of its channels, the book with its calls, and the line of the call that would wait, if one
 /// would.
 #[derive(Drop)]
@@ -160,8 +145,18 @@ pub fn play(alloc: Global, script: &Script) -> Result<Played, NoMemory>
     ensures entries { IfOk result (λ played. played.book.entries ≡ journal_of of_world (opening_row script.now.specs) 0 (run_of script.now).calls) }
     ensures waits { IfOk result (λ played. played.waits ≡ (run_of script.now).waits) }
 {
+    specified::<u64>();
+    documented::<u64>();
     let specs = script.specs().to_vec(alloc)?;
-    match run_world(alloc, script) {
+    let world = match open(alloc, script.specs()) {
+        Ok(world) => world,
+        Err(OpenFault::NoMemory) => {
+            drop(specs);
+            return Err(NoMemory);
+        }
+        Err(_) => unreachable!(),
+    };
+    match run_book(alloc, world, script) {
         Ok((book, waits)) => Ok(Played { specs, book, waits }),
         Err(NoMemory) => {
             drop(specs);
