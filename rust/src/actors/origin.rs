@@ -238,6 +238,8 @@ pub(super) fn spawned_at(at: &'static Location<'static>) -> Option<Origin> {
 #[cfg(test)]
 mod tests {
     use super::*;
+    use crate::recorder::Recorder;
+    use std::thread;
 
     #[test]
     fn a_name_has_the_place_which_of_its_tasks_it_is_and_who_spawns_it() {
@@ -274,6 +276,25 @@ mod tests {
         };
         let counts = [one, other, one, other].map(|at| spawned.count(at));
         assert_eq!(counts, [1, 1, 2, 2]);
+    }
+
+    #[test]
+    fn a_thread_has_a_name_by_which_it_spawns_unless_it_is_a_worker() {
+        let recorder = Recorder::new();
+        let spawned_by = |name: &str| {
+            let spawn = || {
+                let _entered = recorder.enter();
+                spawned_at(Location::caller()).map(|task| task.to_string())
+            };
+            thread::scope(|scope| {
+                let named = thread::Builder::new().name(name.to_string());
+                named.spawn_scoped(scope, spawn).unwrap().join().unwrap()
+            })
+        };
+        assert!(spawned_by("clerk").is_some_and(|task| task.ends_with(" by clerk")));
+        for worker in ["tokio-runtime-worker", "tokio-rt-worker"] {
+            assert_eq!(spawned_by(worker), None);
+        }
     }
 
     #[test]

@@ -284,3 +284,63 @@ fn a_faulty_text_has_its_first_fault_and_memory_is_not_blamed() {
         assert_eq!(RunReader::read(Global, &text).err(), Some(*fault));
     }
 }
+
+/// A call in each word of a broadcast, but those that would wait. The handles that are created have the numbers from 2 on.
+static OF_BROADCAST: [BCall<u64>; 13] = [
+    BCall::Send(0, 7),
+    BCall::Subscribe(0),
+    BCall::CloneSender(0),
+    BCall::Resubscribe(1),
+    BCall::Downgrade(0),
+    BCall::Upgrade(5),
+    BCall::CloneWeak(5),
+    BCall::SenderLen(0),
+    BCall::ReceiverCount(0),
+    BCall::ReceiverLen(1),
+    BCall::Recv(1),
+    BCall::TryRecv(1),
+    BCall::DropHandle(1),
+];
+
+/// The same of a watch.
+static OF_WATCH: [WCall<u64>; 15] = [
+    WCall::Send(0, 6),
+    WCall::SendReplace(0, 7),
+    WCall::Modify {
+        told: true,
+        handle: 0,
+        value: 8,
+    },
+    WCall::Subscribe(0),
+    WCall::CloneSender(0),
+    WCall::CloneReceiver(1),
+    WCall::Borrow(1),
+    WCall::HasChanged(1),
+    WCall::MarkUnchanged(1),
+    WCall::MarkChanged(1),
+    WCall::Changed(1),
+    WCall::Update(1),
+    WCall::ReceiverCount(0),
+    WCall::IsClosed(0),
+    WCall::DropHandle(1),
+];
+
+/// Records calls, and asserts that they are those of the text.
+fn are_kept(spec: Spec<u64>, calls: &[ChanCall<u64>]) {
+    let mut recording = Recording::open(Global, spec).unwrap();
+    for (clock, call) in (0..).zip(calls) {
+        recording.call(0, clock, *call).unwrap();
+    }
+    let mut cut = Cut::new(Global);
+    cut.add(Global, &recording, calls.len() as u64).unwrap();
+    let text = cut.text(Global).unwrap();
+    let mut reader = RunReader::read(Global, &text).unwrap();
+    let kept = std::iter::from_fn(|| reader.next_call());
+    assert!(kept.map(|entry| entry.call.call).eq(calls.iter().copied()));
+}
+
+#[test]
+fn each_call_is_in_the_text_as_it_was_made() {
+    are_kept(Spec::Broadcast(2), &OF_BROADCAST.map(ChanCall::B));
+    are_kept(Spec::Watch(5), &OF_WATCH.map(ChanCall::W));
+}
