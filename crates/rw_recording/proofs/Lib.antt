@@ -17,3 +17,6 @@ pub mod Stamps
 pub mod History
 pub mod Joining
 pub mod Flying
+pub mod Stopped
+pub mod Needing
+pub mod Untaken

@@ -6,6 +6,9 @@ pub mod Goals
 pub mod History
 pub mod Kept
 pub mod Leading
+pub mod NoFlights
+pub mod NoLeads
+pub mod NoWindows
 pub mod Past
 pub mod Playing
 pub mod Questions

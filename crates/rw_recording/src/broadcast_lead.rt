@@ -1,12 +1,12 @@
 //! The lead of a broadcast: calls that lead a new channel to what another is like.
 
-ghost use Rattle.std.specs.Prelude.{◌≡◌};
+ghost use Rattle.std.specs.Prelude.{◌≡◌, IfErr};
+ghost use Rattle.rw_recording.specs.NoLeads.{IsUnled};
 
 use crate::faults::WindowFault;
 use crate::leading::Leading;
 use rw_broadcast::{BCall, Broadcast};
 use rw_handles::Kind;
-use rw_journal::MOST_ENTRIES;
 use rw_law::NoMemory;
 use rw_world::ChanCall;
 use std::alloc::Global;
@@ -65,7 +65,8 @@ fn send_all(
     first: u64,
     until: u64,
 ) -> Result<(), WindowFault>
-    ensures { leading.new ≡ leading.old }
+    ensures same { leading.new ≡ leading.old }
+    ensures fault { IfErr result (IsUnled leading.old) }
 {
     for position in first..until {
         let _reply = leading.make(ChanCall::B(BCall::Send(0, value_at(goal, position))))?;
@@ -81,7 +82,8 @@ fn make_receivers(
     receivers: &[Standing],
     first: u64,
 ) -> Result<(), WindowFault>
-    ensures { leading.new ≡ leading.old }
+    ensures same { leading.new ≡ leading.old }
+    ensures fault { IfErr result (IsUnled leading.old) }
 {
     let mut next = first;
     for (i, receiver) in receivers.iter().enumerate() {
@@ -98,7 +100,8 @@ fn make_receivers(
 
 /// Makes each sender and weak sender. Sender 0 stands for the first sender. Returns whether there is one.
 fn make_senders(leading: &mut Leading, goal: &Broadcast<u64>) -> Result<bool, WindowFault>
-    ensures { leading.new ≡ leading.old }
+    ensures same { leading.new ≡ leading.old }
+    ensures fault { IfErr result (IsUnled leading.old) }
 {
     let mut has_sender = false;
     for handle in 0..goal.made() {
@@ -125,13 +128,11 @@ pub(crate) fn lead_broadcast(
     leading: &mut Leading,
     goal: &Broadcast<u64>,
 ) -> Result<(), WindowFault>
-    ensures { leading.new ≡ leading.old }
+    ensures same { leading.new ≡ leading.old }
+    ensures fault { IfErr result (IsUnled leading.old) }
 {
     let receivers = receivers_of(alloc, goal)?;
     let first = first_position(goal, &receivers);
-    if goal.sent().saturating_sub(first) > MOST_ENTRIES as u64 {
-        return Err(WindowFault::TooLong);
-    }
     make_receivers(leading, goal, &receivers, first)?;
     let has_sender = make_senders(leading, goal)?;
     let has_first = match receivers.first() {

@@ -4,9 +4,12 @@ ghost use Rattle.std.specs.Prelude.{◌≡◌, IfOk, OnOk, OnErr};
 ghost use Rattle.rw_law.specs.Journal.{after_all};
 ghost use Rattle.rw_world.specs.Machines.{of_chan};
 ghost use Rattle.rw_recording.specs.Kept.{asks, entries_from, lag_in, sent_in};
+ghost use Rattle.rw_recording.specs.NoLeads.{live_in, retained_in};
+ghost use Rattle.rw_recording.specs.Questions.{alive_in, unread_in};
 
 use crate::recording::RecordedCall;
 use rw_broadcast::BCall;
+use rw_handles::Kind;
 use rw_journal::CallForm;
 use rw_law::{MOST_WEIGHT, NoMemory, Reversible};
 use rw_world::{Chan, ChanCall, ChanReply};
@@ -57,6 +60,45 @@ pub(crate) fn sent_on(channel: &Chan<u64>) -> u64
     match channel {
         Chan::Broadcast(machine) => machine.sent(),
         Chan::Watch(_) => 0,
+    }
+}
+
+/// Returns how many handles of this kind are alive.
+fn alive_on(channel: &Chan<u64>, kind: Kind) -> u64
+    ensures { result ≡ alive_in kind (of_chan.shown channel.now) }
+{
+    match channel {
+        Chan::Broadcast(machine) => machine.alive(kind),
+        Chan::Watch(machine) => machine.alive(kind),
+    }
+}
+
+/// Returns how many handles are alive.
+pub(crate) fn live_on(channel: &Chan<u64>) -> u64
+    ensures { result ≡ live_in (of_chan.shown channel.now) }
+{
+    let _made = channel.made();
+    let senders = alive_on(channel, Kind::Sender) + alive_on(channel, Kind::Weak);
+    senders + alive_on(channel, Kind::Receiver)
+}
+
+/// Returns how many values a broadcast retains at most. It is 0 for a watch.
+pub(crate) fn retained_on(channel: &Chan<u64>) -> u64
+    ensures { result ≡ retained_in (of_chan.shown channel.now) }
+{
+    match channel {
+        Chan::Broadcast(machine) => machine.capacity(),
+        Chan::Watch(_) => 0,
+    }
+}
+
+/// Returns how many values a live receiver of a broadcast has yet to receive.
+pub(crate) fn unread_on(channel: &Chan<u64>, receiver: u32) -> Option<u64>
+    ensures { result ≡ unread_in (of_chan.shown channel.now) receiver }
+{
+    match channel {
+        Chan::Broadcast(machine) => machine.unread(receiver),
+        Chan::Watch(_) => None,
     }
 }
 

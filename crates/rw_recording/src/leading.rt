@@ -1,9 +1,11 @@
 //! A new channel that calls of one actor lead to what another channel is like.
 
-ghost use Rattle.std.specs.Prelude.{◌≡◌, ◌<◌, false, true, IfOk, OnErr};
+ghost use Rattle.std.specs.Prelude.{◌≡◌, ◌<◌, false, true, IfOk, IfErr};
 ghost use Rattle.rw_law.specs.declared.limits.TheConstants.{MOST_ACTORS};
 ghost use Rattle.rw_world.specs.Openings.{has_bad_capacity};
+ghost use Rattle.rw_recording.specs.declared.faults.WindowFault.{WindowFault};
 ghost use Rattle.rw_recording.specs.Leading.{AreBy};
+ghost use Rattle.rw_recording.specs.NoLeads.{IsUnled};
 
 use crate::faults::WindowFault;
 use crate::numbering::zeros;
@@ -19,6 +21,8 @@ pub(crate) struct Leading {
     recording: Recording,
     actor: u32,
     clock: u64,
+    // How many calls it may have.
+    most: u64,
     numbers: Vec<u32>,
 }
 
@@ -27,23 +31,25 @@ impl Model for Leading {
 
     ghost Value = { Seen };
 
-    ghost view = { λ l. record { spec = l.recording.spec; actor = l.actor; clock = l.clock } };
+    ghost view = { λ l. record { spec = l.recording.spec; actor = l.actor; clock = l.clock; most = l.most } };
 
     ghost invariant = { λ l. IsLeading l.recording l.actor l.clock };
 }
 
 impl Leading {
-    /// Opens a channel whose handles stand for so many.
+    /// Opens a channel whose handles stand for so many, and that has at most so many calls.
     pub fn open(
         alloc: Global,
         spec: Spec<u64>,
         actor: u32,
         clock: u64,
         handles: u32,
+        most: u64,
     ) -> Result<Leading, WindowFault>
         requires actor { actor < MOST_ACTORS }
         requires good { has_bad_capacity spec ≡ false }
-        ensures { IfOk result (λ leading. leading ≡ record { spec = spec; actor = actor; clock = clock }) }
+        ensures leading { IfOk result (λ leading. leading ≡ record { spec = spec; actor = actor; clock = clock; most = most }) }
+        ensures fault { IfErr result (λ fault. fault ≡ WindowFault.NoMemory) }
     {
         let numbers = zeros(alloc, handles)?;
         match Recording::open(alloc, spec) {
@@ -51,16 +57,21 @@ impl Leading {
                 recording,
                 actor,
                 clock,
+                most,
                 numbers,
             }),
             Err(_) => Err(WindowFault::NoMemory),
         }
     }
 
-    /// Makes a call.
+    /// Makes a call, unless it has as many as it may have: then it is unlike any channel that was counted.
     pub fn make(&mut self, call: ChanCall<u64>) -> Result<ChanReply<u64>, WindowFault>
-        ensures { self.new ≡ self.old }
+        ensures same { self.new ≡ self.old }
+        ensures fault { IfErr result (IsUnled self.old) }
     {
+        if self.recording.len() >= self.most {
+            return Err(WindowFault::Unlike);
+        }
         match self.recording.call(self.actor, self.clock, call) {
             Ok(reply) => Ok(reply),
             Err(fault) => Err(WindowFault::of(fault)),
@@ -78,7 +89,8 @@ impl Leading {
 
     /// Makes a call that creates a handle, which stands for handle h of the other channel.
     pub(crate) fn make_for(&mut self, h: u32, call: ChanCall<u64>) -> Result<(), WindowFault>
-        ensures { self.new ≡ self.old }
+        ensures same { self.new ≡ self.old }
+        ensures fault { IfErr result (IsUnled self.old) }
     {
         let reply = self.make(call)?;
         if let Some(number) = reply.new_handle() {
@@ -97,6 +109,7 @@ impl Leading {
             recording,
             actor: _,
             clock: _,
+            most: _,
             numbers,
         } = self;
         (recording, numbers)

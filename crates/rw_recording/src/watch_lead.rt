@@ -1,6 +1,7 @@
 //! The lead of a watch: calls that lead a new channel to what another is like.
 
-ghost use Rattle.std.specs.Prelude.{◌≡◌};
+ghost use Rattle.std.specs.Prelude.{◌≡◌, IfErr};
+ghost use Rattle.rw_recording.specs.NoLeads.{IsUnled};
 
 use crate::faults::WindowFault;
 use crate::leading::Leading;
@@ -16,7 +17,8 @@ fn make_receivers(
     seen: bool,
     has_first: bool,
 ) -> Result<bool, WindowFault>
-    ensures { leading.new ≡ leading.old }
+    ensures same { leading.new ≡ leading.old }
+    ensures fault { IfErr result (IsUnled leading.old) }
 {
     let mut has_any = false;
     for handle in 0..goal.made() {
@@ -34,7 +36,8 @@ fn make_receivers(
 
 /// Makes each sender. Sender 0 stands for the first. Returns whether there is one.
 fn make_senders(leading: &mut Leading, goal: &Watch<u64>) -> Result<bool, WindowFault>
-    ensures { leading.new ≡ leading.old }
+    ensures same { leading.new ≡ leading.old }
+    ensures fault { IfErr result (IsUnled leading.old) }
 {
     let mut has_sender = false;
     for handle in 0..goal.made() {
@@ -53,7 +56,8 @@ fn make_senders(leading: &mut Leading, goal: &Watch<u64>) -> Result<bool, Window
 /// Leads a new channel to what the other is like: makes the receivers that haven't seen the value, writes it, makes those that have,
 /// and the senders, and drops those two handles of the opening that stand for none.
 pub(crate) fn lead_watch(leading: &mut Leading, goal: &Watch<u64>) -> Result<(), WindowFault>
-    ensures { leading.new ≡ leading.old }
+    ensures same { leading.new ≡ leading.old }
+    ensures fault { IfErr result (IsUnled leading.old) }
 {
     let has_unseen = make_receivers(leading, goal, false, true)?;
     let _reply = leading.make(ChanCall::W(WCall::SendReplace(0, goal.value())))?;

@@ -2,13 +2,13 @@
 // From crates/rw_recording/src/broadcast_lead.rt, with its contracts as comments. //+
 use crate::shim::Vec; //+
 
-//~ ghost use Rattle.std.specs.Prelude.{◌≡◌};
+//~ ghost use Rattle.std.specs.Prelude.{◌≡◌, IfErr};
+//~ ghost use Rattle.rw_recording.specs.NoLeads.{IsUnled};
 
 use crate::source::rw_recording::faults::WindowFault;
 use crate::source::rw_recording::leading::Leading;
 use crate::source::rw_broadcast::{BCall, Broadcast};
 use crate::source::rw_handles::Kind;
-use crate::source::rw_journal::MOST_ENTRIES;
 use crate::source::rw_law::NoMemory;
 use crate::source::rw_world::ChanCall;
 use crate::shim::alloc::Global;
@@ -67,7 +67,8 @@ fn send_all(
     first: u64,
     until: u64,
 ) -> Result<(), WindowFault>
-//~     ensures { leading.new ≡ leading.old }
+//~     ensures same { leading.new ≡ leading.old }
+//~     ensures fault { IfErr result (IsUnled leading.old) }
 {
     for position in first..until {
         let _reply = leading.make(ChanCall::B(BCall::Send(0, value_at(goal, position))))?;
@@ -83,7 +84,8 @@ fn make_receivers(
     receivers: &[Standing],
     first: u64,
 ) -> Result<(), WindowFault>
-//~     ensures { leading.new ≡ leading.old }
+//~     ensures same { leading.new ≡ leading.old }
+//~     ensures fault { IfErr result (IsUnled leading.old) }
 {
     let mut next = first;
     for (i, receiver) in receivers.iter().enumerate() {
@@ -100,7 +102,8 @@ fn make_receivers(
 
 /// Makes each sender and weak sender. Sender 0 stands for the first sender. Returns whether there is one.
 fn make_senders(leading: &mut Leading, goal: &Broadcast<u64>) -> Result<bool, WindowFault>
-//~     ensures { leading.new ≡ leading.old }
+//~     ensures same { leading.new ≡ leading.old }
+//~     ensures fault { IfErr result (IsUnled leading.old) }
 {
     let mut has_sender = false;
     for handle in 0..goal.made() {
@@ -127,13 +130,11 @@ pub(crate) fn lead_broadcast(
     leading: &mut Leading,
     goal: &Broadcast<u64>,
 ) -> Result<(), WindowFault>
-//~     ensures { leading.new ≡ leading.old }
+//~     ensures same { leading.new ≡ leading.old }
+//~     ensures fault { IfErr result (IsUnled leading.old) }
 {
     let receivers = receivers_of(alloc, goal)?;
     let first = first_position(goal, &receivers);
-    if goal.sent().saturating_sub(first) > MOST_ENTRIES as u64 {
-        return Err(WindowFault::TooLong);
-    }
     make_receivers(leading, goal, &receivers, first)?;
     let has_sender = make_senders(leading, goal)?;
     let has_first = match receivers.first() {

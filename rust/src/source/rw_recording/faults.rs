@@ -1,6 +1,9 @@
 //! Why there is no window of a channel.
 // From crates/rw_recording/src/faults.rt, with its contracts as comments. //+
 
+//~ ghost use Rattle.std.specs.Prelude.{◌≡◌};
+//~ ghost use Rattle.rw_recording.specs.NoWindows.{window_fault};
+
 use crate::source::rw_journal::TakeFault;
 use crate::source::rw_law::NoMemory;
 //~ use thiserror::Error;
@@ -20,7 +23,8 @@ pub enum WindowFault {
     /// A kept call is by a handle that had been dropped before the window begins.
 //~     #[error("a call by a handle that was dropped before")]
     Dropped,
-    /// The lead doesn't lead to what the channel was like, as the comparison finds. No channel is known for which this happens.
+    /// The lead doesn't lead to what the channel was like, as the comparison finds, or needs more calls or handles than are counted for it.
+    /// No channel is known for which this happens.
 //~     #[error("the lead misses the channel")]
     Unlike,
 }
@@ -38,7 +42,9 @@ impl From<NoMemory> for WindowFault {
 
 impl WindowFault {
     /// Returns why a window isn't made if one of its calls isn't.
-    pub(crate) fn of(fault: TakeFault) -> WindowFault {
+    pub(crate) fn of(fault: TakeFault) -> WindowFault
+//~         ensures { result ≡ window_fault fault }
+    {
         match fault {
             TakeFault::JournalFull => WindowFault::TooLong,
             TakeFault::NoMemory => WindowFault::NoMemory,

@@ -16,6 +16,7 @@ mod kept;
 mod laws;
 mod lead;
 mod leading;
+mod needs;
 mod numbering;
 mod past;
 mod recording;

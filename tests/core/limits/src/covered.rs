@@ -29,7 +29,6 @@ const COVERED: &[(&str, &str, &str)] = &[
     ("rw_lines/src/lines.rt", "next_short_line", "session, a line"),
     ("rw_page/src/held_exports.rt", "ttd_held_levels", "none: page/tests/built_module.test.js asks the built module"),
     ("rw_program/src/inputs.rt", "read_whole", "read_whole"),
-    ("rw_recording/src/broadcast_lead.rt", "lead_broadcast", "Kept::lead, sends"),
     ("rw_recording/src/channels.rt", "make", "none: no channel gets as heavy in a lifetime"),
     ("rw_recording/src/cut.rt", "add", "Cut::add"),
     ("rw_recording/src/flight.rt", "renumber", "none: no channel gets as heavy in a lifetime"),
