@@ -3,8 +3,8 @@
 use proved::Global;
 use proved::rw_recording::{
     BCall, BReply, BroadcastCounts, ChanCall, ChanReply, Closing, Counts, Cut, CutFault, Findings,
-    Kind, LateReader, Loss, LossEnd, OpenFault, Recording, RunReader, Spec, TakeFault, TextFault,
-    Totals, WCall, WReply, WatchCounts,
+    Flight, Kind, LateReader, Loss, LossEnd, OpenFault, Recording, RunReader, Spec, TakeFault,
+    TextFault, Totals, WCall, WReply, WatchCounts,
 };
 
 /// A call and its result.
@@ -343,4 +343,20 @@ fn are_kept(spec: Spec<u64>, calls: &[ChanCall<u64>]) {
 fn each_call_is_in_the_text_as_it_was_made() {
     are_kept(Spec::Broadcast(2), &OF_BROADCAST.map(ChanCall::B));
     are_kept(Spec::Watch(5), &OF_WATCH.map(ChanCall::W));
+}
+
+#[test]
+fn stamps_go_on_where_handles_get_new_numbers() {
+    let mut flight = Flight::open(Global, Spec::Broadcast(2), 10).unwrap();
+    let before = [BCall::Send(0, 7), BCall::Subscribe(0), BCall::DropHandle(2)];
+    for (clock, call) in (0..).zip(before) {
+        flight.call(0, clock, ChanCall::B(call)).unwrap();
+    }
+    assert!(flight.renumber(Global).unwrap().is_some());
+    // By an actor that has made no call.
+    let call = ChanCall::B(BCall::TryRecv(1));
+    let reply = ChanReply::B(BReply::Value(7));
+    assert_eq!(flight.call(1, 0, call), Ok(reply));
+    let lead = flight.kept(Global).unwrap().lead(Global, 63, 0).unwrap();
+    assert_eq!(lead.play(0).unwrap().recording().len(), 4);
 }
