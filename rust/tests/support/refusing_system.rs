@@ -1,7 +1,7 @@
 //! The C library's functions by which Rust's makes files, folders and threads, under their own
 //! names: a program that has this module is linked with these. While a closure runs, some of their
-//! calls are refused, and a write to a file moves half of what it is given, if that is much. A
-//! write to standard error is kept.
+//! calls are refused, and a write to a file moves half of what it is given, if that is much. What
+//! is written to standard error is kept.
 
 use std::ffi::{CStr, OsStr, c_char, c_int, c_void};
 use std::os::unix::ffi::OsStrExt;
