@@ -183,6 +183,8 @@ impl<T> Vec<T> {
 }
 
 impl<T> Drop for Vec<T> {
+    /// The items are dropped, as in Rattle, and the block is freed. Where memory is given back,
+    /// that of a large block is first.
     #[inline]
     fn drop(&mut self) {
         if self.0.capacity().saturating_mul(size_of::<T>()) >= MANY_PAGES {
