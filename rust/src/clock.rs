@@ -14,6 +14,21 @@ pub(crate) struct Moment {
     pub(crate) since_start: u64,
 }
 
+/// Returns the year, the month and the day that is so many days after the first one of 1970.
+pub(crate) fn date(days: u64) -> (u64, u64, u64) {
+    // Days are counted from a first of March, so that a leap day is the last one of its year. There
+    // are 146,097 days in 400 years.
+    let days = days + 719_468;
+    let (era, day) = (days / 146_097, days % 146_097);
+    let year = (day - day / 1_460 + day / 36_524 - day / 146_096) / 365;
+    let day = day - (365 * year + year / 4 - year / 100);
+    let month = (5 * day + 2) / 153;
+    let day = day - (153 * month + 2) / 5 + 1;
+    let is_next = month >= 10;
+    let month = if is_next { month - 9 } else { month + 3 };
+    (400 * era + year + u64::from(is_next), month, day)
+}
+
 /// The clocks of a recorder.
 #[derive(Clone, Copy, Debug)]
 pub(crate) struct Times(Option<Instant>);

@@ -1,6 +1,6 @@
 //! When calls were made, in words: by the clock of UTC, and how long before the dump.
 
-use crate::clock::Moment;
+use crate::clock::{Moment, date};
 use crate::names::Names;
 
 const MILLISECONDS_OF_DAY: u64 = 86_400_000;
@@ -115,17 +115,8 @@ pub(super) fn utc(wall: u64) -> String {
 /// Returns the date and the time of day in UTC at so many milliseconds since the epoch.
 fn date_and_clock(wall: u64) -> (String, String) {
     let (days, time) = (wall / MILLISECONDS_OF_DAY, wall % MILLISECONDS_OF_DAY);
-    // Years are counted from March, so that a leap day is the last day of its year. Each 400 years
-    // have 146,097 days.
-    let days = days + 719_468;
-    let (era, day) = (days / 146_097, days % 146_097);
-    let year = (day - day / 1_460 + day / 36_524 - day / 146_096) / 365;
-    let day = day - (365 * year + year / 4 - year / 100);
-    let month = (5 * day + 2) / 153;
-    let day_of_month = day - (153 * month + 2) / 5 + 1;
-    let month = if month < 10 { month + 3 } else { month - 9 };
-    let year = era * 400 + year + u64::from(month <= 2);
-    let date = format!("{year:04}-{month:02}-{day_of_month:02}");
+    let (year, month, day) = date(days);
+    let date = format!("{year:04}-{month:02}-{day:02}");
     let (seconds, rest) = (time / 1_000, time % 1_000);
     let (minutes, second) = (seconds / 60, seconds % 60);
     let clock = format!(

@@ -2,6 +2,7 @@
 
 use super::super::files::beside;
 use crate::atomic::AtomicU64;
+use crate::clock::date;
 use std::collections::{BTreeMap, BTreeSet};
 use std::path::{Path, PathBuf};
 use std::sync::atomic::Ordering;
@@ -33,21 +34,6 @@ fn time_in_digits(at: u64) -> String {
     let (hours, minutes) = (ms / 3_600_000, ms / 60_000 % 60);
     let (seconds, ms) = (ms / 1000 % 60, ms % 1000);
     format!("{year:04}{month:02}{day:02}T{hours:02}{minutes:02}{seconds:02}{ms:03}Z")
-}
-
-/// Returns the year, the month and the day that is so many days after the first one of 1970.
-fn date(days: u64) -> (u64, u64, u64) {
-    // Days are counted from a first of March, so that a leap day is the last one of its year. There
-    // are 146,097 days in 400 years.
-    let days = days + 719_468;
-    let (era, day) = (days / 146_097, days % 146_097);
-    let year = (day - day / 1_460 + day / 36_524 - day / 146_096) / 365;
-    let day = day - (365 * year + year / 4 - year / 100);
-    let month = (5 * day + 2) / 153;
-    let day = day - (153 * month + 2) / 5 + 1;
-    let is_next = month >= 10;
-    let month = if is_next { month - 9 } else { month + 3 };
-    (400 * era + year + u64::from(is_next), month, day)
 }
 
 /// Writes a dump: its names, and then its journal, so that whoever finds a journal finds its names.
