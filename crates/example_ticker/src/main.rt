@@ -1,6 +1,7 @@
 //! A ticker: prices are sent over a broadcast, and a watch has the last one. One receiver is slow and lags, and the debugger
 //! goes back to the call that made it lag.
 //! Start reading at `main`.
+//! What stands on it: nothing.
 #![tactic(auto)]
 
 ghost use Rattle.std.specs.Prelude.{◌≡◌};

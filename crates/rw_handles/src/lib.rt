@@ -4,6 +4,7 @@
 //! kind and the value of a live handle, or is spent. No number is used again, unless `Table::renumber` takes the dropped ones
 //! out, and each making, drop and write can be undone.
 //! Start reading at `kinds.rt`, the types, then at `specs/Slots.antt`, and then at `table.rt`.
+//! What stands on it: `rw_broadcast`, `rw_watch`.
 #![tactic(auto)]
 
 mod comparing;

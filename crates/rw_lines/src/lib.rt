@@ -4,6 +4,7 @@
 //! clauses of `next_line` define exactly which bytes were read and which line they make, even where reading stops within a
 //! line. Those of `put` define exactly which bytes were written, even where writing stops before the last.
 //! Start reading at `specs/Lines.antt`, which defines the lines of bytes, and then at `lines.rt`.
+//! What stands on it: `rw_blocks`, `rw_words`.
 #![tactic(auto)]
 
 mod bytes;

@@ -8,6 +8,7 @@
 //! where a condition is met, are in `search_back.rt` and `search_forward.rt`. `hit_index.rt` lists the hits of a condition on
 //! entries, for many searches. `worlds.rt` builds on this: a `Debugger` walks over the run of a world, and its contract states
 //! the documented state at each place.
+//! What stands on it: `example_ticker`, `rw_console`, `rw_findings`.
 #![tactic(auto)]
 
 mod conditions;

@@ -8,6 +8,7 @@
 //! `rw_console`'s `specs/SessionReport.antt` defines them, and for a file `specs/Endings.antt` and `specs/Threads.antt`. Where a
 //! fault of a stream, of memory or of threads stops them, they have written a prefix of that, and line and status report the fault.
 //! Start reading at `program.rt`, and continue with `files.rt`.
+//! What stands on it: `rw_ttd`.
 #![tactic(auto)]
 
 mod endings;

@@ -3,6 +3,7 @@
 //! The one contract: a ring's values are the last `min(count, capacity)` of all that were put, in order
 //! (`specs/Windows.antt`), and each put can be undone.
 //! Start reading at `specs/Windows.antt`, the definitions, and then at `ring.rt`.
+//! What stands on it: `rw_broadcast`.
 #![tactic(auto)]
 
 mod laws;

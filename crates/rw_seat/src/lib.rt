@@ -3,6 +3,7 @@
 //! The one contract: after a call, the seat's front is a legal journal that extends all that the seat had seen, and ends with
 //! that call. After two seats meet, one's front extends the other's. Start reading at `specs/Rule.antt`, which says what holds of
 //! a hand-off, whichever seat has the book. Then read `hand_off.rt` and `seat_desk.rt`.
+//! What stands on it: no crate: it is for users of the library.
 #![tactic(auto)]
 
 mod acquiring;

@@ -4,6 +4,7 @@
 //! and of replies, return what they spell, and report the first fault of any other text. `write_entry` writes those spellings.
 //! Start reading at `specs/Words.antt`, which defines what a table of words is. Continue with the two tables,
 //! `specs/BroadcastWords.antt` and `specs/WatchWords.antt`, which define each word once for reading and writing.
+//! What stands on it: `rw_navigator`, `rw_script`, `rw_text`.
 #![tactic(auto)]
 
 mod arguments;

@@ -5,6 +5,7 @@
 //! Start reading at `specs/Row.antt`, which defines what a call to a row does. Continue with `opening.rt`, which opens the
 //! worlds of this library, rows of broadcasts and watches. `laws.rt` has what the layers above build on: calls on two channels
 //! commute, a journal is legal exactly where each channel's part of it is, and no step changes which channels there are.
+//! What stands on it: `rw_blocks`, `rw_journal`, `rw_words`.
 #![tactic(auto)]
 
 mod channels;

@@ -2,6 +2,7 @@
 //!
 //! The one contract: receipts that are accepted as an actor's entries are these, entries and receipts have the sizes that are documented,
 //! and calls made one after the other lead to what the definitions say. Start reading at `receipts.rt`.
+//! What stands on it: nothing.
 #![tactic(auto)]
 
 pub mod playing;

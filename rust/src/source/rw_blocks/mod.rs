@@ -2,6 +2,7 @@
 //!
 //! Each function appends to a buffer, and its contract says what: the text is a function of what the world shows.
 //! Start reading at `specs/Blocks.antt` and `specs/Json.antt`, which define these texts.
+//! What stands on it: `rw_console`.
 //~ #![tactic(auto)]
 // From crates/rw_blocks/src/lib.rt, with its contracts as comments. //+
 

@@ -3,6 +3,7 @@
 //! The one contract: a call adds the receipt of its entry to its actor's pass, or returns the first fault and leaves the pass
 //! unchanged. Start reading at `specs/Passes.antt`, which says what a recorded call adds to a pass. Then read `pass.rt`, whose
 //! `record` makes each step.
+//! What stands on it: `rw_script`, `rw_seat`, `test_claims`.
 //~ #![tactic(auto)]
 // From crates/rw_desk/src/lib.rt, with its contracts as comments. //+
 

@@ -11,6 +11,7 @@
 //! `starts_of` finds where losses began, and `last_receipts_of` where receivers were last given a value (`specs/Receivers.antt`).
 //! Start reading at `specs/Losses.antt`, and then at `losses/finding.rt`. Peaks, lives and values are found with a machine of one channel,
 //! by `following.rt`. Closings, and where losses began, are found with a `Debugger`.
+//! What stands on it: `rw_page`, `rw_recording`.
 //~ #![tactic(auto)]
 // From crates/rw_findings/src/lib.rt, with its contracts as comments. //+
 

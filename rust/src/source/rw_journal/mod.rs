@@ -6,6 +6,7 @@
 //! `book.rt`. A ledger (`ledger.rt`) promises the same and stores the calls alone: `specs/Ledger.antt` defines the entries that
 //! they make. Both are a log (`log.rt`), which takes calls for either. Recent calls (`recent_calls.rt`) are the last ones of any
 //! number of calls, in memory that doesn't grow with it: `specs/RecentCalls.antt` says of which book they are the end.
+//! What stands on it: `rw_desk`, `rw_navigator`, `rw_text`.
 //~ #![tactic(auto)]
 // From crates/rw_journal/src/lib.rt, with its contracts as comments. //+
 

@@ -4,6 +4,7 @@
 //! of the calls before the first that would wait, with that line's number.
 //! Start reading at `specs/Script.antt`, which defines what the lines of a script mean, and at `specs/Running.antt`, which
 //! defines its run. `ScriptReader` reads a script line by line. The words of calls are those of `rw_words`.
+//! What stands on it: `rw_console`.
 //~ #![tactic(auto)]
 // From crates/rw_script/src/lib.rt, with its contracts as comments. //+
 
