@@ -89,24 +89,6 @@ fn a_lag_calls_for_a_dump_if_it_is_great_enough() {
 }
 
 #[test]
-fn the_time_of_a_dump_is_at_its_last_call_where_the_lead_raises_the_stamps() {
-    let folder = folder("flight-raised");
-    let recorder = Recorder::flight(1);
-    recorder.dump_to(&folder);
-    let _entered = recorder.enter();
-    let (_state, rx) = watch::channel(7);
-    (0..2).for_each(|_| drop(rx.borrow()));
-    recorder.dump("asked").wait().unwrap();
-    let (journal, names) = dumps_in(&folder).pop().unwrap();
-    let walk = Walk::open(journal.as_bytes()).unwrap();
-    let last = walk.entry(walk.len()).unwrap().stamp();
-    assert!(last > 2);
-    let times = times(&names).into_iter().map(|time| time[0]);
-    assert_eq!(times.filter(|stamp| *stamp == last).count(), 2);
-    fs::remove_dir_all(folder).unwrap();
-}
-
-#[test]
 fn the_close_of_a_channel_with_that_name_calls_for_a_dump() {
     let folder = folder("flight-close");
     let recorder = Recorder::flight(10);
