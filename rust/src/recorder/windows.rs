@@ -212,7 +212,23 @@ fn of_cut(fault: CutFault) -> io::Error {
 
 #[cfg(test)]
 mod tests {
+    use super::super::window_names::Why;
     use super::*;
+    use crate::{Recorder, broadcast};
+
+    #[test]
+    fn all_calls_are_in_it_where_one_window_begins_later() {
+        let recorder = Recorder::flight(10);
+        let _entered = recorder.enter();
+        let (orders, _audit) = broadcast::channel(4);
+        let (prices, _chart) = broadcast::channel(4);
+        orders.send(1).unwrap();
+        let last = recorder.0.last();
+        prices.send(2).unwrap();
+        let copied = recorder.0.run().copied(None, last).unwrap();
+        let read = copied.into_run(Why::asked(), Most::of_dump(2, None));
+        assert_eq!(read.unwrap().run.len(), 2);
+    }
 
     #[test]
     fn the_longest_channels_share_what_the_others_leave() {

@@ -104,7 +104,7 @@ fn make_first(gate: &Gate, count: usize) {
         .for_each(|coming| make(gate, coming));
 }
 
-/// Waits until this many threads are blocked before the gate.
+/// Waits until this many threads are blocked before the gate, or all calls pass.
 fn wait_for_blocked(gate: &Gate, count: u32) {
     let blocked = || {
         let state = lock(&gate.state);
@@ -112,7 +112,7 @@ fn wait_for_blocked(gate: &Gate, count: u32) {
         let of_actors = state.actors.iter().map(|actor| actor.blocked);
         of_lanes.chain(of_actors).sum::<u32>()
     };
-    while blocked() < count {
+    while blocked() < count && !gate.is_over() {
         thread::yield_now();
     }
 }
@@ -268,6 +268,20 @@ fn callers_who_share_a_handle_without_a_name_are_not_told_apart() {
         "all 2 calls in the recorded order; but several callers use handle 0 of `orders`, \
          and a replay can't tell them apart: give each a name of its own"
     );
+}
+
+#[test]
+#[cfg_attr(target_family = "wasm", ignore = "WebAssembly has no threads")]
+fn a_caller_without_a_name_waits_for_the_call_of_another_one() {
+    let journal = "ttd-journal 2\nbroadcast 4\nsteps\n\
+        1 2 0 send 0 0 = sent 1\n2 3 0 receiver-count 0 = count 1\nend\n";
+    let gate = gate_of(journal, NAMES, PATIENT);
+    thread::scope(|scope| {
+        scope.spawn(|| make(&gate, call(NOBODY, 0, Word::ReceiverCount, 0)));
+        wait_for_blocked(&gate, 1);
+        make(&gate, call(NOBODY, 0, Word::Send, 0));
+    });
+    assert_eq!(gate.outcome().calls_in_order(), 2);
 }
 
 #[test]
