@@ -1,6 +1,7 @@
 //! How the system backs large blocks by memory. That affects speed, and how much memory is in use.
 #![allow(unsafe_code)]
 
+use std::cell::Cell;
 use std::mem::MaybeUninit;
 use std::sync::atomic::{AtomicBool, Ordering};
 
@@ -26,9 +27,21 @@ pub(crate) fn begin_to_give_back() {
     GIVES_BACK.store(true, Ordering::Relaxed);
 }
 
-/// Whether memory is given back.
+thread_local! {
+    /// Whether this thread leaves its memory to the allocator.
+    static LEAVES: Cell<bool> = const { Cell::new(false) };
+}
+
+/// Has this thread leave its memory to the allocator from now on. That is quicker, for a thread
+/// that soon ends.
+#[allow(dead_code)]
+pub(crate) fn leave_to_the_allocator() {
+    LEAVES.set(true);
+}
+
+/// Whether this thread gives memory back.
 pub(crate) fn gives_back() -> bool {
-    GIVES_BACK.load(Ordering::Relaxed)
+    GIVES_BACK.load(Ordering::Relaxed) && !LEAVES.get()
 }
 
 /// Gives back the memory of room in which nothing is, if memory is given back. What an earlier use

@@ -75,7 +75,7 @@ impl<T> Vec<T> {
                 return Ok(());
             }
         }
-        if gives_back() && wanted.saturating_mul(size) >= MANY_PAGES {
+        if wanted.saturating_mul(size) >= MANY_PAGES && gives_back() {
             return self.move_to(wanted);
         }
         self.0.try_reserve(additional).map_err(|_| AllocError)

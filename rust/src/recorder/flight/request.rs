@@ -9,6 +9,7 @@ use crate::channel::{ChannelState, KeptChannel};
 use crate::clock::{Moment, wall};
 use crate::events::values;
 use crate::handle::Kind;
+use crate::large_pages;
 use crate::source::rw_law::NoMemory;
 use crate::wait::now;
 use std::io;
@@ -167,6 +168,7 @@ impl DumpRequest {
         let (recorder, told) = (self.recorder.0.clone(), self.told.clone());
         let named = thread::Builder::new().name("yovanelum dump".to_string());
         let spawned = named.spawn(move || {
+            large_pages::leave_to_the_allocator();
             let written = panic::catch_unwind(AssertUnwindSafe(|| writing::write(&mut self)));
             self.end(written.unwrap_or_else(|_| Err(io::Error::other("it panicked"))));
         });
