@@ -15,7 +15,8 @@ use crate::session_lines::{fault_line, waiting_line};
 use crate::walk::Walk;
 pub use rw_lines::StreamFault as SessionFault;
 use rw_lines::put_whole;
-use rw_script::{Script, ScriptFault};
+use rw_navigator::Debugger;
+use rw_script::{Played, Script, ScriptFault, play};
 use std::alloc::Global;
 use std::io::{Read, Write};
 
@@ -75,11 +76,12 @@ fn begin<W: Write>(
     ensures ok { OnOk result (Appends (W.contents writer.old) (W.contents writer.new) (waiting_line (run_of script).waits)) }
     ensures err { IfErr result (StopsWriting (W.contents writer.old) (W.contents writer.new) (waiting_line (run_of script).waits)) }
 {
-    let begun = Walk::of_script(alloc, &script);
+    let played = play(alloc, &script);
     drop(script);
-    let Ok((walk, waits)) = begun else {
+    let Ok(Played { specs, book, waits }) = played else {
         return Err(SessionFault::NoMemory);
     };
+    let walk = Walk::at_end(alloc, Debugger::of_book(specs, book));
     match say_waiting(alloc, writer, waits) {
         Ok(()) => Ok((walk, waits)),
         Err(fault) => {

@@ -4,12 +4,10 @@ ghost use Rattle.std.specs.Prelude.{◌≡◌, ◌++◌, ◌≢◌, ◌≤◌, �
 ghost use Rattle.rw_journal.specs.Run.{IsRun};
 ghost use Rattle.rw_console.specs.Hits.{hit_above, hit_below};
 ghost use Rattle.rw_console.specs.Report.{output_of, place_of};
-ghost use Rattle.rw_console.specs.SessionReport.{recording_of};
 ghost use Rattle.rw_navigator.specs.Conditions.{asks_step, holds_of_step};
 ghost use Rattle.rw_navigator.specs.Moves.{answer_to, landing, place_after};
 ghost use Rattle.rw_navigator.specs.Places.{entry_to, last_place};
 ghost use Rattle.rw_world.specs.Specified.{WorldEntry};
-ghost use Rattle.rw_script.specs.Running.{run_of};
 
 use crate::command::Command;
 use crate::entries::push_entry;
@@ -19,7 +17,6 @@ use rw_blocks::{push_json, push_world};
 use rw_journal::Run;
 use rw_law::{Entry, NoMemory, Reversible};
 use rw_navigator::{Cond, Debugger, HitIndex, Move, OutOfRange, Probe, Visitor};
-use rw_script::{Played, Script, play};
 use rw_world::World;
 use std::alloc::{AllocError, Global};
 use std::marker::Model;
@@ -91,23 +88,8 @@ impl Walk {
         (run, paused)
     }
 
-    /// Runs a script, and opens a walk at the last place of its run, with the machine and the entries of its book. Also returns
-    /// the line that would wait, if there is one.
-    pub(crate) fn of_script(alloc: Global, script: &Script) -> Result<(Walk, Option<u64>), NoMemory>
-        ensures run { IfOk result (λ p. p.0.run ≡ recording_of script.now) }
-        ensures place { IfOk result (λ p. p.0.place ≡ last_place p.0.run) }
-        ensures waits { IfOk result (λ p. p.1 ≡ (run_of script.now).waits) }
-    {
-        let Ok(played) = play(alloc, script) else {
-            return Err(NoMemory);
-        };
-        let Played { specs, book, waits } = played;
-        let walk = Walk::at_end(alloc, Debugger::of_book(specs, book));
-        Ok((walk, waits))
-    }
-
     /// Opens a walk at the last place of a debugger's run.
-    fn at_end(alloc: Global, debugger: Debugger<u64>) -> Walk
+    pub(crate) fn at_end(alloc: Global, debugger: Debugger<u64>) -> Walk
         ensures run { result.run ≡ debugger.run }
         ensures place { result.place ≡ last_place debugger.run }
     {

@@ -1,5 +1,4 @@
-//! A turn for the other tasks of a thread, also for tests of the packages beside tokio and over
-//! tokio-recorded.
+//! A turn for the other tasks of a thread, also for tests of the package beside tokio.
 
 use std::future::poll_fn;
 use std::task::Poll;

@@ -16,7 +16,8 @@ use crate::source::rw_console::session_lines::{fault_line, waiting_line};
 use crate::source::rw_console::walk::Walk;
 pub use crate::source::rw_lines::StreamFault as SessionFault;
 use crate::source::rw_lines::put_whole;
-use crate::source::rw_script::{Script, ScriptFault};
+use crate::source::rw_navigator::Debugger;
+use crate::source::rw_script::{Played, Script, ScriptFault, play};
 use crate::shim::alloc::Global;
 use crate::shim::io::{Read, Write};
 
@@ -76,11 +77,12 @@ fn begin<W: Write>(
 //~     ensures ok { OnOk result (Appends (W.contents writer.old) (W.contents writer.new) (waiting_line (run_of script).waits)) }
 //~     ensures err { IfErr result (StopsWriting (W.contents writer.old) (W.contents writer.new) (waiting_line (run_of script).waits)) }
 {
-    let begun = Walk::of_script(alloc, &script);
+    let played = play(alloc, &script);
     drop(script);
-    let Ok((walk, waits)) = begun else {
+    let Ok(Played { specs, book, waits }) = played else {
         return Err(SessionFault::NoMemory);
     };
+    let walk = Walk::at_end(alloc, Debugger::of_book(specs, book));
     match say_waiting(alloc, writer, waits) {
         Ok(()) => Ok((walk, waits)),
         Err(fault) => {

@@ -6,12 +6,10 @@ use crate::shim::Vec; //+
 //~ ghost use Rattle.rw_journal.specs.Run.{IsRun};
 //~ ghost use Rattle.rw_console.specs.Hits.{hit_above, hit_below};
 //~ ghost use Rattle.rw_console.specs.Report.{output_of, place_of};
-//~ ghost use Rattle.rw_console.specs.SessionReport.{recording_of};
 //~ ghost use Rattle.rw_navigator.specs.Conditions.{asks_step, holds_of_step};
 //~ ghost use Rattle.rw_navigator.specs.Moves.{answer_to, landing, place_after};
 //~ ghost use Rattle.rw_navigator.specs.Places.{entry_to, last_place};
 //~ ghost use Rattle.rw_world.specs.Specified.{WorldEntry};
-//~ ghost use Rattle.rw_script.specs.Running.{run_of};
 
 use crate::source::rw_console::command::Command;
 use crate::source::rw_console::entries::push_entry;
@@ -21,7 +19,6 @@ use crate::source::rw_blocks::{push_json, push_world};
 use crate::source::rw_journal::Run;
 use crate::source::rw_law::{Entry, NoMemory, Reversible};
 use crate::source::rw_navigator::{Cond, Debugger, HitIndex, Move, OutOfRange, Probe, Visitor};
-use crate::source::rw_script::{Played, Script, play};
 use crate::source::rw_world::World;
 use crate::shim::alloc::{AllocError, Global};
 //~ use std::marker::Model;
@@ -93,23 +90,8 @@ impl Walk {
         (run, paused)
     }
 
-    /// Runs a script, and opens a walk at the last place of its run, with the machine and the entries of its book. Also returns
-    /// the line that would wait, if there is one.
-    pub(crate) fn of_script(alloc: Global, script: &Script) -> Result<(Walk, Option<u64>), NoMemory>
-//~         ensures run { IfOk result (λ p. p.0.run ≡ recording_of script.now) }
-//~         ensures place { IfOk result (λ p. p.0.place ≡ last_place p.0.run) }
-//~         ensures waits { IfOk result (λ p. p.1 ≡ (run_of script.now).waits) }
-    {
-        let Ok(played) = play(alloc, script) else {
-            return Err(NoMemory);
-        };
-        let Played { specs, book, waits } = played;
-        let walk = Walk::at_end(alloc, Debugger::of_book(specs, book));
-        Ok((walk, waits))
-    }
-
     /// Opens a walk at the last place of a debugger's run.
-    fn at_end(alloc: Global, debugger: Debugger<u64>) -> Walk
+    pub(crate) fn at_end(alloc: Global, debugger: Debugger<u64>) -> Walk
 //~         ensures run { result.run ≡ debugger.run }
 //~         ensures place { result.place ≡ last_place debugger.run }
     {

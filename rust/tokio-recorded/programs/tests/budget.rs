@@ -2,18 +2,14 @@
 //! `--cfg tokio_unstable` the tokio of these tests offers its budget, as later versions do: then
 //! what a task takes of it is taken from its receives, too.
 
-#[path = "../../../tests/support/yielding.rs"]
-mod yielding;
-
 use std::cell::{Cell, RefCell};
-use std::future::Future;
+use std::future::{poll_fn, Future};
 use std::pin::pin;
 use std::rc::Rc;
 use std::task::{Context, Poll, Waker};
 use tokio::runtime::{Builder, Runtime};
 use tokio::sync::{broadcast, mpsc};
 use tokio::task::LocalSet;
-use yielding::yield_now;
 
 /// A channel with this many values to receive, which is closed behind them.
 fn full(values: u32) -> broadcast::Receiver<u32> {
@@ -22,6 +18,20 @@ fn full(values: u32) -> broadcast::Receiver<u32> {
         tx.send(value).unwrap();
     }
     rx
+}
+
+/// Is ready when the task is polled again. tokio's own leaves a set of tasks first.
+async fn yield_now() {
+    let mut has_yielded = false;
+    poll_fn(|context| {
+        if has_yielded {
+            return Poll::Ready(());
+        }
+        has_yielded = true;
+        context.waker().wake_by_ref();
+        Poll::Pending
+    })
+    .await
 }
 
 fn runtime() -> Runtime {
