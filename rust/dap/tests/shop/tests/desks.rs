@@ -1,10 +1,11 @@
 use std::sync::{Arc, Barrier};
 use std::thread::{self, JoinHandle};
-use std::time::Duration;
 use yovanelum::{Recorder, broadcast};
 
 /// How many orders each desk takes.
 const ORDERS: u32 = 50;
+/// After how many orders a desk waits for the other.
+const TOGETHER: u32 = 5;
 
 #[inline(never)]
 fn publish(orders: &broadcast::Sender<u32>, id: u32) {
@@ -14,11 +15,12 @@ fn publish(orders: &broadcast::Sender<u32>, id: u32) {
 fn open(name: &str, first: u32, orders: broadcast::Sender<u32>, both: Arc<Barrier>) -> JoinHandle<()> {
     let desk = thread::Builder::new().name(name.into());
     let take = move || {
-        both.wait();
         for id in first..first + ORDERS {
+            // The other desk takes as many orders meanwhile.
+            if id % TOGETHER == 0 {
+                both.wait();
+            }
             publish(&orders, id);
-            // The other desk comes in between, now and then.
-            thread::sleep(Duration::from_micros(u64::from(id * 7919 % 50)));
         }
     };
     desk.spawn(take).unwrap()
