@@ -204,23 +204,33 @@ impl Recording {
     }
 
     /// Makes a call where not all calls are recorded.
-    // Apart, since the reply of a call that is recorded would be stored where this one is. Each
-    // call has its own, of which the branches for others are left out.
-    #[cold]
-    #[inline(never)]
+    // This only leads to one of two, so that neither saves registers for the other.
+    #[inline]
     fn call_apart(&mut self, caller: Caller, call: impl FnOnce() -> ChanCall<u64>) -> Reply {
         match &mut self.last {
             Some(flight) => call_last(flight, caller, call),
-            None => Reply::of(&self.all.call(caller.actor.number(), caller.clock, call())),
+            None => call_unrecorded(&mut self.all, caller, call),
         }
     }
 }
 
 /// Makes a call that is kept among the last ones.
-// Apart once more, so that calls which aren't recorded save no registers for it.
+// Apart, since the reply of a call that is recorded would be stored where this one is. Each call
+// has its own, of which the branches for others are left out.
 #[inline(never)]
 fn call_last(flight: &mut Flight, caller: Caller, call: impl FnOnce() -> ChanCall<u64>) -> Reply {
     Reply::of(&flight.call(caller.actor.number(), caller.clock, call()))
+}
+
+/// Makes a call that isn't recorded. It is apart as [`call_last`] is.
+#[cold]
+#[inline(never)]
+fn call_unrecorded(
+    all: &mut rw_recording::Recording,
+    caller: Caller,
+    call: impl FnOnce() -> ChanCall<u64>,
+) -> Reply {
+    Reply::of(&all.call(caller.actor.number(), caller.clock, call()))
 }
 
 /// Goes on from a recording that hasn't ended with its last calls alone.

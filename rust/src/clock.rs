@@ -41,12 +41,60 @@ impl Times {
 
     /// Returns the time of a call with this stamp, which is made now, if there is a clock.
     pub(crate) fn moment(self, stamp: u64) -> Option<Moment> {
-        let since_start = now()?.saturating_duration_since(self.0?);
         Some(Moment {
             stamp,
             wall: wall()?,
-            since_start: since_start.as_micros() as u64,
+            since_start: self.since_start()?,
         })
+    }
+
+    fn since_start(self) -> Option<u64> {
+        let since_start = now()?.saturating_duration_since(self.0?);
+        Some(since_start.as_micros() as u64)
+    }
+}
+
+/// For how many microseconds the time of the clock that may be set is computed from its last
+/// reading.
+const COMPUTED_FOR: u64 = 1_000_000;
+
+/// The clocks of a recorder, for calls that come one after the other. A receiver that falls behind
+/// may lag at each call, so the clock that may be set is read once a second at most.
+pub(crate) struct Clock {
+    times: Times,
+    // The last call at which the clock that may be set was read.
+    read: Option<Moment>,
+}
+
+impl Clock {
+    pub(crate) fn new(times: Times) -> Clock {
+        Clock { times, read: None }
+    }
+
+    /// Returns the time of a call with this stamp, which is made now, if there is a clock.
+    pub(crate) fn moment(&mut self, stamp: u64) -> Option<Moment> {
+        let since_start = self.times.since_start()?;
+        if let Some(wall) = self.read.and_then(|read| read.computed_wall(since_start)) {
+            return Some(Moment {
+                stamp,
+                wall,
+                since_start,
+            });
+        }
+        self.read = Some(Moment {
+            stamp,
+            wall: wall()?,
+            since_start,
+        });
+        self.read
+    }
+}
+
+impl Moment {
+    /// Returns the milliseconds since 1970 at a later time, unless that is too much later.
+    fn computed_wall(&self, since_start: u64) -> Option<u64> {
+        let after = since_start - self.since_start;
+        (after < COMPUTED_FOR).then(|| self.wall + after / 1000)
     }
 }
 
@@ -58,4 +106,42 @@ pub(crate) fn wall() -> Option<u64> {
     }
     let since = SystemTime::now().duration_since(UNIX_EPOCH).ok()?;
     Some(since.as_millis() as u64)
+}
+
+#[cfg(test)]
+mod tests {
+    use super::*;
+
+    const READ: Moment = Moment {
+        stamp: 1,
+        wall: 5_000,
+        since_start: 70,
+    };
+
+    #[test]
+    fn a_time_is_computed_for_a_second() {
+        let walls = [70, 1_069, 1_070, 1_000_069].map(|since| READ.computed_wall(since));
+        assert_eq!(walls, [5_000, 5_000, 5_001, 5_999].map(Some));
+        assert_eq!(READ.computed_wall(1_000_070), None);
+    }
+
+    #[test]
+    fn the_clock_that_may_be_set_is_read_again_after_a_second() {
+        let begun = Times::begin();
+        let since_start = begun.since_start().unwrap();
+        let mut clock = Clock::new(begun);
+        clock.read = Some(Moment {
+            since_start,
+            ..READ
+        });
+        let soon = clock.moment(2).unwrap();
+        let after = soon.since_start - since_start;
+        assert_eq!(soon.stamp, 2);
+        assert!(soon.wall == 5_000 + after / 1000 || after >= COMPUTED_FOR);
+        // A second and more before now.
+        clock.times = Times(Some(begun.0.unwrap() - std::time::Duration::from_secs(2)));
+        let later = clock.moment(3).unwrap();
+        assert!(later.wall > 1_700_000_000_000, "{later:?}");
+        assert_eq!(clock.read, Some(later));
+    }
 }

@@ -5,7 +5,7 @@ use super::CallSite;
 use super::locations::Locations;
 use super::made_handles::{MadeHandles, PastHandles};
 use crate::backend::Actor;
-use crate::clock::{Moment, Times};
+use crate::clock::{Clock, Moment, Times};
 use crate::lists::reserved;
 use crate::source::rw_law::NoMemory;
 use std::collections::VecDeque;
@@ -31,7 +31,7 @@ pub(crate) struct LastCalls {
     // The handles of before the table was numbered anew, where calls are kept by their previous
     // numbers.
     past: PastHandles,
-    times: Times,
+    clock: Clock,
 }
 
 /// The calls of a chunk, and what is dropped with them.
@@ -99,7 +99,7 @@ impl LastCalls {
             retained: VecDeque::new(),
             handles: MadeHandles::default(),
             past: PastHandles::default(),
-            times,
+            clock: Clock::new(times),
         }
     }
 
@@ -159,7 +159,7 @@ impl LastCalls {
     #[cold]
     #[inline(never)]
     pub(super) fn note_time(&mut self, stamp: u64) {
-        self.newer.moments.extend(self.times.moment(stamp));
+        self.newer.moments.extend(self.clock.moment(stamp));
     }
 
     /// Removes the call that was added last, since it wasn't made. Returns where it was to be.

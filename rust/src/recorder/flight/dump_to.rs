@@ -67,7 +67,10 @@ impl DumpTo {
     /// Recorder::flight(10_000).dump_to("/var/log/exchange").when_lag(1_000);
     /// ```
     pub fn when_lag(self, values: u64) -> DumpTo {
-        self.set(|settings| settings.lag = Some(values))
+        if let Some(flight) = &self.0.flight {
+            flight.dumping.set_lag(values);
+        }
+        self
     }
 
     /// Writes a dump when the last sender of a channel with this name is dropped. It can be called

@@ -12,7 +12,6 @@ use std::time::{Duration, Instant};
 /// What calls for dumps, and where they are written.
 pub(super) struct Settings {
     folder: Option<PathBuf>,
-    pub(super) lag: Option<u64>,
     pub(super) closed: Vec<String>,
     pub(super) at_most_every: Duration,
     pub(super) keep: usize,
@@ -23,6 +22,9 @@ pub(super) struct Settings {
 /// The dumps of a recorder.
 pub(super) struct Dumping {
     settings: Mutex<Settings>,
+    // How many values a receiver has lost at least that calls for a dump: none does, if this is the
+    // greatest number. It is read at each lag, so no lock is about it.
+    least_lost: AtomicU64,
     // Whether one is being written.
     is_busy: AtomicBool,
     written: AtomicU64,
@@ -35,12 +37,12 @@ impl Default for Dumping {
         Dumping {
             settings: Mutex::new(Settings {
                 folder: None,
-                lag: None,
                 closed: Vec::new(),
                 at_most_every: Duration::from_secs(60),
                 keep: 16,
                 last: None,
             }),
+            least_lost: AtomicU64::new(u64::MAX),
             is_busy: AtomicBool::new(false),
             written: AtomicU64::new(0),
             failed: AtomicU64::new(0),
@@ -56,6 +58,16 @@ impl Dumping {
 
     pub(super) fn set(&self, set: impl FnOnce(&mut Settings)) {
         set(&mut lock(&self.settings));
+    }
+
+    /// Has each lag call for a dump by which a receiver has lost at least so many values.
+    pub(super) fn set_lag(&self, least_lost: u64) {
+        self.least_lost.store(least_lost, Ordering::Relaxed);
+    }
+
+    /// Whether a lag of so many values calls for a dump.
+    pub(super) fn is_for_lag(&self, lost: u64) -> bool {
+        lost >= self.least_lost.load(Ordering::Relaxed)
     }
 
     /// Whether these settings call for a dump.

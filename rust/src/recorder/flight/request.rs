@@ -66,7 +66,7 @@ impl Shared {
         lost: u64,
     ) -> Option<Box<DumpRequest>> {
         let dumping = &self.flight.as_ref()?.dumping;
-        if !dumping.are(|settings| settings.lag.is_some_and(|least| lost >= least)) {
+        if !dumping.is_for_lag(lost) {
             return None;
         }
         let receiver = state.handle_name(Kind::Receiver, receiver);

@@ -62,7 +62,7 @@ fn play_copy(spec: Spec<u64>, call: ChanCall<u64>, questions: [ChanCall<u64>; 2]
 fn open() -> Result<ChannelCalls, NoMemory> {
     made(|| {
         let channel = paused(|| open_channel(Global, &Spec::Broadcast(2)).unwrap());
-        RecentCalls::open(Global, channel, CHUNK)
+        RecentCalls::open(Global, channel, CHUNK, 1)
     })
 }
 

@@ -48,7 +48,7 @@ fn compare(recent: &ChannelCalls, all: &[Made]) {
 /// Plays one channel, whose chunks have this many calls.
 fn play(random: &mut Random, spec: Spec<u64>, chunk: usize) {
     let open = || open_channel(Global, &spec).unwrap();
-    let mut recent: ChannelCalls = RecentCalls::open(Global, open(), chunk).unwrap();
+    let mut recent: ChannelCalls = RecentCalls::open(Global, open(), chunk, chunk.min(16)).unwrap();
     let mut plain = open();
     let mut all: Vec<Made> = Vec::new();
     for _ in 0..CALLS {

@@ -8,7 +8,7 @@ type CellCalls = RecentCalls<Cell, Call>;
 
 /// Opens the last calls of a cell, in chunks of two.
 fn open() -> CellCalls {
-    RecentCalls::open(Global, Cell::new(100), 2).unwrap()
+    RecentCalls::open(Global, Cell::new(100), 2, 2).unwrap()
 }
 
 /// Makes a call by actor 5, and returns its stamp and the value before.
