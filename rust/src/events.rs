@@ -11,6 +11,7 @@ use crate::channel::{CallSite, ChannelState};
 use crate::lock::lock;
 use crate::recorder::{DumpRequest, HeldTexts, RecordedBy};
 use std::fmt;
+use std::mem;
 use std::panic::{self, AssertUnwindSafe};
 use std::sync::{Arc, Mutex};
 use std::thread;
@@ -122,9 +123,19 @@ impl ToldEvent {
 /// An event of a call, if somebody asked for it. Whoever makes the call drops this while nothing is
 /// locked: then the closure is called, and the dump is begun.
 #[derive(Default)]
-pub(crate) struct Event(Option<Box<Told>>);
+pub(crate) struct Event(Called);
 
-/// What an event calls for. What the recorder holds may be dropped with it, which runs user code.
+/// What is done at an event once nothing is locked.
+#[derive(Default)]
+enum Called {
+    #[default]
+    Nothing,
+    // What the recorder holds may be dropped, which runs user code.
+    Release(HeldTexts),
+    Tell(Box<Told>),
+}
+
+/// What an event calls for. What the recorder holds may be dropped with it.
 struct Told {
     event: Option<ToldEvent>,
     held: Option<HeldTexts>,
@@ -161,23 +172,35 @@ impl Event {
         let held = recorder.held();
         let own = held.as_ref().and_then(|held| find(held.hooks()));
         let event = own.or_else(|| find(&PROCESS)).map(told);
-        let has_any = event.is_some() || held.is_some() || dump.is_some();
-        Event(has_any.then(|| Box::new(Told { event, held, dump })))
+        if event.is_some() || dump.is_some() {
+            return Event(Called::Tell(Box::new(Told { event, held, dump })));
+        }
+        Event(held.map_or(Called::Nothing, Called::Release))
     }
 }
 
 impl Drop for Event {
     #[inline]
     fn drop(&mut self) {
-        if let Some(event) = self.0.take() {
-            tell(event);
+        if !matches!(self.0, Called::Nothing) {
+            end(mem::take(&mut self.0));
         }
+    }
+}
+
+/// Does what an event calls for.
+#[cold]
+#[inline(never)]
+fn end(called: Called) {
+    match called {
+        Called::Nothing => {}
+        Called::Release(held) => drop(held),
+        Called::Tell(told) => tell(told),
     }
 }
 
 /// Calls the closure. Its panic goes on, but within another panic, where the process would end.
 // It gets the box, since what is in it would else be moved where the event is dropped.
-#[cold]
 #[allow(clippy::boxed_local)]
 fn tell(told: Box<Told>) {
     let Told { event, held, dump } = *told;
