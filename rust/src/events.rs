@@ -13,6 +13,7 @@ use crate::recorder::{DumpRequest, HeldTexts, RecordedBy};
 use std::fmt;
 use std::mem;
 use std::panic::{self, AssertUnwindSafe};
+use std::sync::atomic::{AtomicBool, Ordering};
 use std::sync::{Arc, Mutex};
 use std::thread;
 
@@ -27,6 +28,10 @@ pub(crate) struct Hooks {
 
 static PROCESS: Hooks = Hooks::new();
 
+/// Whether a closure for lags was ever set in this process. While there is none, a lag, which a
+/// receiver that falls behind may have at each call, looks for none.
+static ANY_FOR_LAGS: AtomicBool = AtomicBool::new(false);
+
 impl Hooks {
     pub(crate) const fn new() -> Hooks {
         Hooks {
@@ -36,6 +41,7 @@ impl Hooks {
     }
 
     pub(crate) fn on_lag(&self, told: impl Fn(&Lag) + Send + Sync + 'static) {
+        ANY_FOR_LAGS.store(true, Ordering::Relaxed);
         let before = lock(&self.lag).replace(Arc::new(told));
         // This runs user code, so nothing is locked here.
         drop(before);
@@ -149,6 +155,9 @@ impl Event {
         dump: Option<Box<DumpRequest>>,
         lag: impl FnOnce() -> Lag,
     ) -> Event {
+        if dump.is_none() && !ANY_FOR_LAGS.load(Ordering::Relaxed) {
+            return Event::default();
+        }
         let find = |hooks: &Hooks| lock(&hooks.lag).clone();
         Event::of(recorder, dump, find, |hook| ToldEvent::Lag(hook, lag()))
     }
