@@ -140,6 +140,12 @@ test_programs() {
   for program in "$top"/rust/tests/*.rs "$top"/rust/tests/*/main.rs; do basename "${program%/main.rs}" .rs; done
 }
 
+# Has cargo build the program, not optimised, where the crate's tests have it too, and sets `built` to its path.
+build_program() {
+  built=$out/rust/target/debug/ttd
+  CARGO_NET_OFFLINE=true CARGO_TARGET_DIR=$out/rust/target step cargo build -q --locked --manifest-path "$top/rust/Cargo.toml" --bin ttd
+}
+
 # Has cargo install the program, as users do but for the number of parts in which it is optimised, and sets `installed` to its path.
 install_program() {
   installed=$out/program/bin/ttd

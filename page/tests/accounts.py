@@ -63,7 +63,7 @@ def made_as_why_says(tab, folder, journals):
     failing.said()
     chance = random.Random(68)
     kinds = set()
-    for number in range(native.rounds(12, 60)):
+    for number in range(60):
         journal, names = random_run(chance)
         if names is not None:
             opening.put(folder, f"run{number}.names", names.encode())
@@ -153,12 +153,12 @@ def answer_on_a_phone(tab, folder, journals):
 
 def cause_in_whole(tab, folder, journals):
     """At the cause of each loss of the failing tests, the sentence isn't cut, and says who lost it and where the call stands, and calls in the list have
-    the texts of their values, at four widths."""
+    the texts of their values, at two widths or four."""
     for name in ("no_price_is_missing", "the_log_is_read", "the_orders_are_whole", "the_notes_are_whole", failing.FORTY):
         page, _ = failing.addresses()[name]
         account = names_beside(page)["account"]
         place = account["facts"][0]["places"][0]
-        for width, height in ((1440, 900), (1366, 768), (1024, 768), (390, 844)):
+        for width, height in ((1366, 768), (390, 844), (1440, 900), (1024, 768))[:native.rounds(2, 4)]:
             tab.resize(width, height)
             opening.load(tab, page, place["place"])
             tab.run("document.querySelector('#tabs [data-tab=picture]').click()")

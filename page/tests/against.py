@@ -232,13 +232,13 @@ def same_as_a_plain_model(tab, folder, journals):
     """Over random pairs of runs of the same programs, the command and the page's worker find the calls that the model says differ, and say the same."""
     failing.said()
     chance = random.Random(68)
-    pairs = [pair(chance) for _ in range(300)]
+    pairs = [pair(chance) for _ in range(native.rounds(100, 300))]
     kinds = set()
     for number, (runs, made) in enumerate(zip(pairs, by_node(pairs), strict=True)):
         wanted = model(*runs)
         assert made["differing"] == wanted, f"pair {number}: {made['differing']}, and not {wanted}"
         kinds.update(it["kind"] for it in wanted)
-        if number < 60:
+        if number < native.rounds(15, 60):
             found = by_command(folder, runs)
             assert found["differing"] == wanted, f"pair {number}: {found['differing']}, and not {wanted}"
             assert found["text"] == made["text"], f"pair {number}: {found['text']}, and not {made['text']}"

@@ -74,3 +74,6 @@ def late_faults(tab, folder, journals):
     tab.wait("!document.getElementById('cut').hidden", 60)
     all_read(tab)
     assert tab.text("place") == "before call 1", tab.text("place")
+
+
+TESTS = [first_calls, far_places, late_faults]

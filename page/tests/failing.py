@@ -33,6 +33,8 @@ PATIENCE = 600
 HANGS = "the_state_is_ready"
 # Its journal has as many calls as a journal takes, too many to walk through.
 FULL = "the_last_tick_arrives"
+# It fills all channels that a recorder takes.
+LAST_BUS = "the_last_bus_is_read"
 LOOK = re.compile(r"^look: file://(\S+)#call=(\d+)$", re.M)
 
 
@@ -68,6 +70,8 @@ def euros(numbers):
 # The first 40 characters of a note, in quotation marks.
 SHORT_NOTES = {number: r'''"Order {\n id: N,\n note: \"🦀 \\\\ 'note"…'''.replace("N", str(number)) for number in (1, 2)}
 FORTY = "forty_screens_are_up_to_date"
+# The tests that open long runs, or many channels.
+LONG = {f"page_of_{name}" for name in (FULL, FORTY, LAST_BUS)}
 
 
 def screen_untold(number):
@@ -187,8 +191,8 @@ WANTED = {
           " call 555721 told: lagged 2 the_last_tick_arrives {the last tick is received} its last receive: call 555716, value 539999",
           " lost: value 540000, value 540001"]],
         {"0 2": (2, 2)}, unknown=["524288 calls came before the window"]),
-    "the_last_bus_is_read": Wanted(
-        {"the_last_bus_is_read"}, [f"channel {number}" for number in range(64)], {f"{number} 1": "receiver 1" for number in range(64)}, set(), [], [],
+    LAST_BUS: Wanted(
+        {LAST_BUS}, [f"channel {number}" for number in range(64)], {f"{number} 1": "receiver 1" for number in range(64)}, set(), [], [],
         unknown=["1 channel was not recorded, since 64 were alive"], nothing="nothing was found in 128 calls on 64 channels"),
 }
 

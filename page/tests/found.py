@@ -1,4 +1,5 @@
 """The losses of a run, by the states that the program writes at all its places."""
+import functools
 import json
 from dataclasses import dataclass
 
@@ -13,9 +14,14 @@ class Loss:
     to: int = 0
 
 
-def states(ask, last):
+def each_state(ask, last):
+    """The states at all places, one after the other: together they take much memory."""
     lines = ask("".join(f"goto {place}\nstate json\n" for place in range(last + 1))).split("\n")
-    return [json.loads(line) for line in lines if line.startswith("{")]
+    return (json.loads(line) for line in lines if line.startswith("{"))
+
+
+def states(ask, last):
+    return list(each_state(ask, last))
 
 
 def lags(state):
@@ -23,11 +29,11 @@ def lags(state):
     return {(channel, it["handle"]): it["lag"] for channel, of in enumerate(state["channels"]) for it in of["receivers"] if "lag" in it}
 
 
+@functools.cache
 def losses_of(ask, last):
     """Longest stretches of places at which a receiver lags, in the order in which they begin."""
     open_ones, found = {}, []
-    for place, state in enumerate(states(ask, last)):
-        now = lags(state)
+    for place, now in enumerate(map(lags, each_state(ask, last))):
         for key in [key for key in open_ones if not now.get(key)]:
             loss = open_ones.pop(key)
             loss.end, loss.to = "told" if key in now else "dropped", place

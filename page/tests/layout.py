@@ -115,7 +115,7 @@ def look_at(tab, what):
 def nothing_over_anything(tab, folder, journals):
     """In the pages of failing tests at four sizes, light and dark, no part and no drawn text lies over another, is cut off or out of the window, or has
     too little contrast, and the picture has a quarter of the window."""
-    for name in NAMES[:native.rounds(2, len(NAMES))]:
+    for name in NAMES[:native.rounds(1, len(NAMES))]:
         page, place = failing.addresses()[name]
         for width, height in SIZES:
             tab.resize(width, height)

@@ -89,7 +89,7 @@ def totals_of(ask, last, losses):
         if "= value" in line and word.endswith("recv"):
             received[int(channel), int(handle)] = received.get((int(channel), int(handle)), 0) + 1
     every, rest = set(), {}
-    for state in found.states(ask, last):
+    for state in found.each_state(ask, last):
         every |= set(found.lags(state))
         rest = {(channel, it["handle"]): it["unread"] - it["lag"] for channel, of in enumerate(state["channels"]) for it in of["receivers"] if "lag" in it}
     totals = {}

@@ -1,4 +1,5 @@
 """Pages with a run in them, made by page/open, and what they show."""
+import functools
 import json
 import os
 import subprocess
@@ -110,6 +111,7 @@ def check_place(tab, ask, place):
     tab.wait(f"document.getElementById('told-text').textContent === {json.dumps(told)}")
 
 
+@functools.cache
 def asker(journal):
     """A function that returns what the program writes for commands over a journal."""
     return lambda commands: native.debug(journal, commands.encode()).decode()

@@ -62,13 +62,17 @@ TESTS = [
     hands.waiting_script, hands.refusals, hands.example, hands.files_that_are_not_there, hands.addresses, shown.large_runs,
     shown.quick_walking, shown.many_handles, weak.weak_senders, weak.weak_rows, texts.large_numbers, texts.long_texts, speed.figures,
     *losses.TESTS, *lives.TESTS, *sources.TESTS, *failing.TESTS, *accounts.TESTS, *layout.TESTS, *search.TESTS, *story.TESTS, *against.TESTS, *windows.TESTS, *lowered.TESTS,
-    beginning.first_calls, beginning.far_places, beginning.late_faults,
+    *beginning.TESTS,
     bare(answers.example_sessions), random_commands, spoiled_texts,
 ]
 
-# Those of a million calls, or of a thousand random cases of the debugger alone, which is built seldom; and those that `--slow` has more runs for.
-SLOW = {speed.figures, shown.large_runs, random_commands, spoiled_texts, *(test for test in failing.TESTS if failing.FULL in test.__name__)}
-LONGER = {accounts.made_as_why_says, layout.nothing_over_anything, windows.window_as_why_says}
+# Those of long runs and of many windows, or of a thousand random cases of the debugger alone, which is built seldom; and those that `--slow` has more
+# runs, places or sizes for.
+SLOW = {speed.figures, shown.large_runs, shown.quick_walking, shown.many_handles, random_commands, spoiled_texts, rows.wide_after_losses,
+        rows.list_after_losses, rows.seen_after_losses, rows.heads_over_rows, losses.lost_everywhere, accounts.made_as_why_says,
+        windows.window_as_why_says, against.in_each_window, *beginning.TESTS,
+        *(test for test in failing.TESTS if test.__name__ in failing.LONG)}
+LONGER = {accounts.cause_in_whole, layout.nothing_over_anything, against.same_as_a_plain_model}
 
 # Those that open what the tests of `failing` have left, which cargo runs once for all of them.
 OF_FAILING = {*accounts.TESTS, *against.TESTS, *failing.TESTS, *layout.TESTS, *search.TESTS, *story.TESTS, jumps.report_as_markdown}

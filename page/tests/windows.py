@@ -200,7 +200,7 @@ def window_as_why_says(tab, folder, journals):
     failing.said()
     chance = random.Random(70)
     kinds = set()
-    for number in range(native.rounds(12, 40)):
+    for number in range(40):
         found = random_window(chance, random_run)
         opening.put(folder, f"whole{number}.names", json.dumps(found["names"]).encode())
         opening.put(folder, f"window{number}.names", json.dumps(found["made"]).encode())

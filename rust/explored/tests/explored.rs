@@ -264,17 +264,6 @@ fn a_lease_that_two_claim_is_found() {
 }
 
 #[test]
-fn a_client_that_waits_forever_is_found() {
-    assert_found(
-        "waits_forever",
-        &[
-            "yovanelum: waits_forever hangs: everybody waits forever; its calls so far are in ",
-            "yovanelum: still waiting: client in `channel 0.changed`, tests/programs/threads.rs:",
-        ],
-    );
-}
-
-#[test]
 fn a_copy_that_is_older_than_the_subscription_is_found() {
     let lines = ["while `keeper` made channel 0.borrow (", "\n right: 12\n"];
     assert_found("copy_then_subscribe", &lines);
@@ -288,18 +277,6 @@ fn an_order_of_polls_is_found_and_brought_back_by_the_schedule() {
         &[
             "the journal brings it back 0 of 10, the schedule's file 10 of 10, the order ",
             "an old price stays",
-        ],
-    );
-}
-
-#[test]
-fn an_order_in_which_time_passes_is_found() {
-    assert_found(
-        "heart_and_monitor",
-        &[
-            "  time passed at step ",
-            " while `monitor` stood ready\n",
-            "Lagged(",
         ],
     );
 }

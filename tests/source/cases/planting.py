@@ -174,7 +174,8 @@ class Lane:
         return run(["cargo", "check", "--locked", "-j2", "--lib"], self.rust, self.target)
 
     def core_tests(self):
-        words = ["cargo", "test", "--locked", "-j2", "--test", "calls", "--test", "texts", "--", "--test-threads=2"]
+        programs = [f"--test={program}" for program in ("calls", "texts", "storms", "refusals")]
+        words = ["cargo", "test", "--locked", "-j2", *programs, "--", "--test-threads=2"]
         return run(words, f"{self.folder}/tests/core", f"{self.folder}/target-core")
 
     def crate_tests(self):

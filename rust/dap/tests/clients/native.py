@@ -1,5 +1,6 @@
 """Has gdb stop a replay before each send of a journal, and looks there at the thread and at a variable of the test's own. `gdb -batch -x native.py`,
-with the variables ADAPTER, the program, SHOP, the package with the test, SAID, a file for what the replays say, and FOUND, one for what was found."""
+with the variables ADAPTER, the program, SHOP, the package with the test, SAID, a file for what the replays say, FOUND, one for what was found, and EVERY: it
+stops before one in so many sends."""
 
 import json
 import os
@@ -95,7 +96,8 @@ expected = list(sends(environment["YOVANELUM_REPLAY"]))
 of_call = {number: (thread, value) for number, thread, value in expected}
 print("as recorded there:", run() == of_call[40], file=found)
 right = 0
-for number, thread, value in expected:
+tried = expected[:: int(os.environ["EVERY"])]
+for number, thread, value in tried:
     gdb.execute("kill", to_string=True)
     gdb.execute("set environment YOVANELUM_REPLAY_STOP %d" % number)
     seen = run()
@@ -103,7 +105,7 @@ for number, thread, value in expected:
     if seen != (thread, value):
         print("call %d is by %s of %s, and gdb saw %s" % (number, thread, value, seen), file=found)
 switches = sum(one[1] != other[1] for one, other in zip(expected, expected[1:]))
-print("right: %d of %d, with at least 5 switches: %s" % (right, len(expected), switches >= 5), file=found)
+print("right: %d of %d, with at least 5 switches: %s" % (right, len(tried), switches >= 5), file=found)
 gdb.execute("kill", to_string=True)
 gdb.execute("set environment YOVANELUM_REPLAY_STOP %d" % expected[len(expected) // 2][0])
 run()

@@ -7,6 +7,31 @@ use std::path::Path;
 
 #[test]
 #[ignore = "rust/test slow runs it"]
+fn a_client_that_waits_forever_is_found() {
+    assert_found(
+        "waits_forever",
+        &[
+            "yovanelum: waits_forever hangs: everybody waits forever; its calls so far are in ",
+            "yovanelum: still waiting: client in `channel 0.changed`, tests/programs/threads.rs:",
+        ],
+    );
+}
+
+#[test]
+#[ignore = "rust/test slow runs it"]
+fn an_order_in_which_time_passes_is_found() {
+    assert_found(
+        "heart_and_monitor",
+        &[
+            "  time passed at step ",
+            " while `monitor` stood ready\n",
+            "Lagged(",
+        ],
+    );
+}
+
+#[test]
+#[ignore = "rust/test slow runs it"]
 fn a_task_that_is_told_too_early_is_found() {
     assert_found(
         "told_too_early",

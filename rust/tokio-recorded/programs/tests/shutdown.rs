@@ -240,6 +240,7 @@ async fn axum_finishes_the_request_that_it_works_on() {
     assert_eq!(entries(&recorder, " 1 closed 0 = done"), 1);
 }
 
+#[cfg(feature = "hyper")]
 #[tokio::test]
 async fn hyper_finishes_the_request_that_it_works_on() {
     use hyper::service::{make_service_fn, service_fn};

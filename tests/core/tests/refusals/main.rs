@@ -10,6 +10,7 @@ mod callers;
 mod calls;
 mod comparisons;
 mod desks;
+mod findings;
 mod flights;
 mod hand_offs;
 mod journals;
@@ -53,6 +54,11 @@ fn is_answered(play: fn(), wanted: &str) {
         }
     }
     assert!(all > 0, "no call has returned that memory was refused");
+}
+
+#[test]
+fn findings() {
+    is_answered(findings::play, include_str!("said/findings.txt"));
 }
 
 #[test]

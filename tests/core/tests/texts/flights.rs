@@ -1,7 +1,7 @@
 //! Channels with their last calls, and the windows that are made of them, worked by hand.
 
 use proved::Global;
-use proved::rw_recording::{BCall, ChanCall, Dozing, Flight, Kept, Spec, Window};
+use proved::rw_recording::{BCall, ChanCall, Dozing, Flight, Kept, Spec, Window, WindowFault};
 
 /// A broadcast that retains one value, with the last of these calls, of which a chunk has so many.
 fn flown(chunk: usize, calls: &[BCall<u64>]) -> Flight {
@@ -75,6 +75,16 @@ fn calls_begin_behind_the_last_that_asks_a_receiver_which_lags_too_far() {
     assert_eq!((kept.len(), kept.dropped()), (1, 4));
     kept.skip(Global, 100).unwrap();
     assert_eq!((kept.len(), kept.dropped()), (0, 5));
+}
+
+#[test]
+fn a_call_by_a_handle_that_was_dropped_before_the_window_has_none() {
+    // Only the last call is kept, and handle 2 is gone by then.
+    let calls = [BCall::Subscribe(0), BCall::DropHandle(2), BCall::TryRecv(2)];
+    let lead = flown(1, &calls).kept(Global).unwrap();
+    let lead = lead.lead(Global, 63, 0).unwrap();
+    let raised = lead.len();
+    assert_eq!(lead.play(raised).err(), Some(WindowFault::Dropped));
 }
 
 #[test]
