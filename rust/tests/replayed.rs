@@ -4,14 +4,18 @@
 mod support;
 
 use std::fs;
-use std::io::{self, Write};
+use std::io;
 use std::path::PathBuf;
-use std::process::{Command, Stdio};
+use std::process::Command;
 use std::sync::atomic::{AtomicBool, Ordering};
 use std::sync::mpsc;
 use std::thread::{self, JoinHandle};
-use std::time::{Duration, Instant};
-use support::parts::{Folder, files, is_part, line_after, replay_line, started, without_options};
+use std::time::Duration;
+#[cfg(target_os = "linux")]
+use std::{io::Write, process::Stdio, time::Instant};
+use support::parts::{
+    Folder, files, is_part, line_after, quoted, replay_line, started, without_options,
+};
 use yovanelum::{Recorder, broadcast, watch};
 
 /// The variable that says which of two threads is slow, or that Ann waits for Bob.
@@ -273,15 +277,15 @@ fn a_replay_that_diverged_and_failed_says_how_to_compare_it() {
         lines.map(String::from).collect::<Vec<_>>()
     };
     part.record();
-    let again = part.journal().with_extension("").display().to_string() + ".replayed.journal";
-    let wanted = format!(
-        "yovanelum why {again} --against {}",
-        part.journal().display()
-    );
-    assert_eq!(compared("asks first"), [wanted.as_str()]);
-    let words = wanted.split(' ').skip(1);
+    let again = part.journal().with_extension("replayed.journal");
+    let paths = [quoted(&again), quoted(&part.journal())];
+    let wanted = format!("yovanelum why {} --against {}", paths[0], paths[1]);
+    assert_eq!(compared("asks first"), [wanted]);
     let answer = Command::new(env!("CARGO_BIN_EXE_yovanelum"))
-        .args(words)
+        .arg("why")
+        .arg(&again)
+        .arg("--against")
+        .arg(part.journal())
         .output();
     let answer = String::from_utf8(answer.unwrap().stdout).unwrap();
     assert!(

@@ -2,8 +2,10 @@
 // programs are started as they are. The variable UNDER_QEMU has qemu's path, and QEMU_LD_PREFIX and QEMU_SET_ENV, which are inherited, the rest.
 #define _GNU_SOURCE
 #include <dlfcn.h>
+#include <errno.h>
 #include <fcntl.h>
 #include <spawn.h>
+#include <stdio.h>
 #include <stdlib.h>
 #include <string.h>
 #include <unistd.h>
@@ -36,9 +38,25 @@ static const char *through_qemu(const char *path, char *const *words, char **out
   return qemu;
 }
 
+// Whether a program is there. qemu forks for `posix_spawn`, so the new process has no memory in common with this one, by which it would say that it
+// found no program. A path from a folder below isn't looked for, since the new process may be in another folder.
+static int is_there(const char *path) {
+  char whole[4096];
+  if (strchr(path, '/')) return path[0] != '/' || access(path, X_OK) == 0;
+  const char *folder = getenv("PATH");
+  while (folder && *folder) {
+    int length = (int)strcspn(folder, ":");
+    snprintf(whole, sizeof whole, "%.*s/%s", length, folder, path);
+    if (access(whole, X_OK) == 0) return 1;
+    folder += length + (folder[length] == ':');
+  }
+  return 0;
+}
+
 #define STARTS(NAME)                                                                                                                    \
   int NAME(pid_t *id, const char *path, const posix_spawn_file_actions_t *actions, const posix_spawnattr_t *how, char *const words[],   \
            char *const variables[]) {                                                                                                   \
+    if (!is_there(path)) return ENOENT;                                                                                                 \
     char *more[WORDS];                                                                                                                  \
     const char *qemu = through_qemu(path, words, more);                                                                                 \
     int (*start)(pid_t *, const char *, const posix_spawn_file_actions_t *, const posix_spawnattr_t *, char *const[], char *const[]) =  \

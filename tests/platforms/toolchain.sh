@@ -92,7 +92,7 @@ need_std_sources() { need_made has_sources add_sources 'the sources of std 1.85'
 # Makes something of that folder, unless the file that says so is there.
 need_made() {
   [ -f "$rust_root/$1" ] || { say "downloading $3"; "$2" >"$work/rust" 2>&1; } || {
-    fail "there is no $3: $(tail -n 3 "$work/rust" | tr '\n' ' ')"
+    fail "$3 can't be had: $(tail -n 3 "$work/rust" | tr '\n' ' ')"
     finish
   }
 }

@@ -68,13 +68,17 @@ pub fn address(path: &Path) -> String {
     }
 }
 
+/// Returns a path as a word of a shell, which takes a backslash as it is between quotes alone.
+pub fn quoted(path: &Path) -> String {
+    let quote = if cfg!(windows) { "'" } else { "" };
+    format!("{quote}{}{quote}", path.display())
+}
+
 /// Returns the line by which a test of this program is replayed from this journal.
 pub fn replay_line(journal: &Path, test: &str) -> String {
-    let journal = journal.display();
-    // A shell takes a backslash as it is between quotes alone.
-    let quote = if cfg!(windows) { "'" } else { "" };
     format!(
-        "replay: YOVANELUM_REPLAY={quote}{journal}{quote} cargo test -p yovanelum --test {PROGRAM} -- {test} --exact"
+        "replay: YOVANELUM_REPLAY={} cargo test -p yovanelum --test {PROGRAM} -- {test} --exact",
+        quoted(journal)
     )
 }
 

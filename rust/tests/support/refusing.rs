@@ -48,33 +48,88 @@ impl Refusal {
     }
 }
 
-thread_local! {
-    static REFUSAL: Cell<Option<Refusal>> = const { Cell::new(None) };
-    static REFUSED: Cell<u64> = const { Cell::new(0) };
+/// What is refused of a thread while a closure runs, on the stack of which it is.
+struct Refused {
+    refusal: Cell<Refusal>,
+    // How many requests were refused.
+    count: Cell<u64>,
+}
+
+/// Where the thread has what is refused of it. It is null where nothing is.
+#[cfg(not(windows))]
+mod of_thread {
+    use super::Refused;
+    use std::cell::Cell;
+    use std::ptr;
+
+    thread_local! {
+        static REFUSED: Cell<*const Refused> = const { Cell::new(ptr::null()) };
+    }
+
+    pub fn get() -> *const Refused {
+        REFUSED.get()
+    }
+
+    pub fn set(refused: *const Refused) {
+        REFUSED.set(refused);
+    }
+}
+
+/// The same by the system's own slots: where mingw links, a variable of a thread allocates as it is
+/// first used, and so would be asked for by the allocator that asks for it.
+#[cfg(windows)]
+mod of_thread {
+    use super::Refused;
+    use std::ffi::c_void;
+    use std::ptr;
+    use std::sync::OnceLock;
+
+    #[link(name = "kernel32")]
+    unsafe extern "system" {
+        fn TlsAlloc() -> u32;
+        fn TlsGetValue(slot: u32) -> *const c_void;
+        fn TlsSetValue(slot: u32, to: *const c_void) -> i32;
+    }
+
+    static SLOT: OnceLock<u32> = OnceLock::new();
+
+    pub fn get() -> *const Refused {
+        let Some(slot) = SLOT.get() else {
+            return ptr::null();
+        };
+        // SAFETY: it is a slot that the system has given out.
+        unsafe { TlsGetValue(*slot) }.cast()
+    }
+
+    pub fn set(refused: *const Refused) {
+        // SAFETY: the system is asked for a slot.
+        let slot = *SLOT.get_or_init(|| unsafe { TlsAlloc() });
+        // SAFETY: it refuses what isn't one.
+        assert_ne!(unsafe { TlsSetValue(slot, refused.cast()) }, 0, "no slot");
+    }
+}
+
+/// Puts back what was refused of this thread before.
+struct Restore(*const Refused);
+
+impl Drop for Restore {
+    fn drop(&mut self) {
+        of_thread::set(self.0);
+    }
 }
 
 /// Runs a closure, and refuses these requests of this thread in it. Returns also how many were
 /// refused.
 pub fn refusing<T>(refusal: Refusal, run: impl FnOnce() -> T) -> (T, u64) {
-    struct Disarm;
-
-    impl Drop for Disarm {
-        fn drop(&mut self) {
-            REFUSAL.set(None);
-        }
-    }
-
-    REFUSED.set(0);
-    REFUSAL.set(Some(refusal));
-    let disarm = Disarm;
+    let refused = Refused {
+        refusal: Cell::new(refusal),
+        count: Cell::new(0),
+    };
+    let restore = Restore(of_thread::get());
+    of_thread::set(&refused);
     let result = run();
-    drop(disarm);
-    (result, REFUSED.get())
-}
-
-thread_local! {
-    // Whether this thread refuses requests of all others.
-    static IS_ONE: Cell<bool> = const { Cell::new(false) };
+    drop(restore);
+    (result, refused.count.get())
 }
 
 // How many bytes a request of another thread has at least, to be counted.
@@ -87,19 +142,20 @@ static REFUSED_OF_OTHERS: AtomicU64 = AtomicU64::new(0);
 /// Runs a closure, and refuses one request of the threads that aren't this one: of those that have
 /// at least so many bytes, the one after so many. Returns also how many were refused.
 pub fn refusing_others<T>(least: usize, allowed: u64, run: impl FnOnce() -> T) -> (T, u64) {
-    IS_ONE.set(true);
-    COUNTED.store(0, Ordering::SeqCst);
-    WHICH.store(allowed, Ordering::SeqCst);
-    REFUSED_OF_OTHERS.store(0, Ordering::SeqCst);
-    LEAST.store(least, Ordering::SeqCst);
-    let result = run();
-    LEAST.store(usize::MAX, Ordering::SeqCst);
-    (result, REFUSED_OF_OTHERS.load(Ordering::SeqCst))
+    paused(|| {
+        COUNTED.store(0, Ordering::SeqCst);
+        WHICH.store(allowed, Ordering::SeqCst);
+        REFUSED_OF_OTHERS.store(0, Ordering::SeqCst);
+        LEAST.store(least, Ordering::SeqCst);
+        let result = run();
+        LEAST.store(usize::MAX, Ordering::SeqCst);
+        (result, REFUSED_OF_OTHERS.load(Ordering::SeqCst))
+    })
 }
 
 /// Whether a request of this many bytes is refused, since another thread refuses it.
 fn is_refused_by_one(size: usize) -> bool {
-    if size < LEAST.load(Ordering::SeqCst) || IS_ONE.get() {
+    if size < LEAST.load(Ordering::SeqCst) {
         return false;
     }
     let is_it = COUNTED.fetch_add(1, Ordering::SeqCst) == WHICH.load(Ordering::SeqCst);
@@ -109,30 +165,35 @@ fn is_refused_by_one(size: usize) -> bool {
 
 /// Runs a closure whose requests are neither counted nor refused.
 pub fn paused<T>(run: impl FnOnce() -> T) -> T {
-    let refusal = REFUSAL.take();
-    let result = run();
-    REFUSAL.set(refusal);
-    result
+    refusing(Refusal::above(usize::MAX), run).0
+}
+
+impl Refused {
+    /// Whether a request of this many bytes is refused. It counts.
+    fn takes(&self, size: usize) -> bool {
+        let mut refusal = self.refusal.get();
+        if size < refusal.least {
+            return false;
+        }
+        let is_refused = refusal.allowed == 0 && refusal.refused > 0;
+        if is_refused {
+            refusal.refused -= 1;
+            self.count.set(self.count.get() + 1);
+        } else {
+            refusal.allowed = refusal.allowed.saturating_sub(1);
+        }
+        self.refusal.set(refusal);
+        is_refused
+    }
 }
 
 /// Whether a request of this many bytes is refused.
 fn is_refused(size: usize) -> bool {
-    let Some(mut refusal) = REFUSAL.get() else {
-        return is_refused_by_one(size);
-    };
-    if size < refusal.least {
-        return false;
+    // SAFETY: it is on the stack of this thread, below the closure that runs.
+    match unsafe { of_thread::get().as_ref() } {
+        Some(refused) => refused.takes(size),
+        None => is_refused_by_one(size),
     }
-    if refusal.allowed > 0 {
-        refusal.allowed -= 1;
-    } else if refusal.refused > 0 {
-        refusal.refused -= 1;
-        REFUSED.set(REFUSED.get() + 1);
-        REFUSAL.set(Some(refusal));
-        return true;
-    }
-    REFUSAL.set(Some(refusal));
-    false
 }
 
 /// The system's allocator, which refuses what it is told to.
