@@ -279,6 +279,7 @@ mod tests {
     }
 
     #[test]
+    #[cfg_attr(target_family = "wasm", ignore = "WebAssembly has no threads")]
     fn a_thread_has_a_name_by_which_it_spawns_unless_it_is_a_worker() {
         let recorder = Recorder::new();
         let spawned_by = |name: &str| {
