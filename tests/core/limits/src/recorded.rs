@@ -209,13 +209,13 @@ pub fn draft_actors(size: u64) -> bool {
 type Recent = RecentCalls<Chan<u64>, StoredCall<u64>>;
 
 pub fn recent_stamps(size: u64) -> bool {
-    let mut recent = Recent::open(Global, channel(TWO[0]), 2).unwrap();
+    let mut recent = Recent::open(Global, channel(TWO[0]), 2, 16).unwrap();
     is_taken(recent.take(0, size - 1, send(1)))
 }
 
 /// Makes one call more than two chunks have.
 pub fn recent_chunk(size: u64) -> bool {
-    let mut recent = Recent::open(Global, channel(TWO[0]), size as usize).unwrap();
+    let mut recent = Recent::open(Global, channel(TWO[0]), size as usize, 16).unwrap();
     for value in 0..=2 * size {
         assert_eq!(recent.take(0, value, send(value)).unwrap().reply, SENT);
     }
