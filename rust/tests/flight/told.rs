@@ -23,6 +23,7 @@ fn why(journal: &Path, more: &[&str]) -> String {
 }
 
 #[test]
+#[cfg_attr(target_family = "wasm", ignore = "WebAssembly has no threads")]
 fn a_lag_of_the_night_is_told_with_what_is_known() {
     let folder = temporary::path("flight-told");
     let _ = fs::remove_dir_all(&folder);
