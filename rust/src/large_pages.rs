@@ -32,11 +32,15 @@ thread_local! {
     static LEAVES: Cell<bool> = const { Cell::new(false) };
 }
 
-/// Has this thread leave its memory to the allocator from now on. That is quicker, for a thread
-/// that soon ends.
+/// Runs this while its thread leaves memory to the allocator. That is quicker for a thread that
+/// soon ends, and where further lists take the place of those that are dropped: what an earlier use
+/// of a block has written is there, so that it isn't backed again page by page.
 #[allow(dead_code)]
-pub(crate) fn leave_to_the_allocator() {
-    LEAVES.set(true);
+pub(crate) fn without_giving_back<R>(run: impl FnOnce() -> R) -> R {
+    let before = LEAVES.replace(true);
+    let result = run();
+    LEAVES.set(before);
+    result
 }
 
 /// Whether this thread gives memory back.

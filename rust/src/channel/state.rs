@@ -8,6 +8,7 @@ use super::receivers::Receivers;
 use crate::clock::Times;
 use crate::explore::{Known, KnownReceiver};
 use crate::handle::Kind;
+use crate::large_pages::without_giving_back;
 use crate::names::Maker;
 use crate::queue::Queue;
 use crate::wait::{Look, Pending, Wait, WaitFor};
@@ -289,10 +290,14 @@ impl ChannelState {
             return;
         };
         last.turn();
-        if self.core.forget_past() {
-            return;
-        }
-        if let Some(before) = self.core.renumber_last(Some(last.chunk())) {
+        // The lists that are forgotten are as long as those that are allocated then.
+        let before = without_giving_back(|| {
+            if self.core.forget_past() {
+                return None;
+            }
+            self.core.renumber_last(Some(last.chunk()))
+        });
+        if let Some(before) = before {
             last.renumber(&before);
         }
     }

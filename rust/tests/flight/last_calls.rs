@@ -314,3 +314,29 @@ fn calls_of_several_threads_are_in_their_order() {
         }
     });
 }
+
+/// How many pages this thread has touched first.
+#[cfg(all(target_os = "linux", target_arch = "x86_64"))]
+fn page_faults() -> u64 {
+    let line = std::fs::read_to_string("/proc/thread-self/stat").unwrap();
+    // Behind the name, which is in brackets, it is the eighth field.
+    let (_, fields) = line.rsplit_once(") ").unwrap();
+    fields.split(' ').nth(7).unwrap().parse().unwrap()
+}
+
+// On an emulated processor the emulator's would be counted.
+#[cfg(all(target_os = "linux", target_arch = "x86_64"))]
+#[test]
+fn the_lists_of_a_chunk_take_the_memory_of_those_that_are_forgotten() {
+    let recorder = Recorder::flight(10_000);
+    let _entered = recorder.enter();
+    let (prices, _chart) = broadcast::channel::<u32>(16);
+    // Each chunk has 5,000 dropped handles, which are taken out at its end.
+    let chunks = |count: u32| (0..count * 5_000).for_each(|_| drop(prices.subscribe()));
+    chunks(4);
+    let before = page_faults();
+    chunks(20);
+    let more = page_faults() - before;
+    // It is 2,300 where the memory of these lists is given back.
+    assert!(more < 200, "{more} pages");
+}

@@ -9,7 +9,7 @@ use crate::channel::{ChannelState, KeptChannel};
 use crate::clock::{Moment, wall};
 use crate::events::values;
 use crate::handle::Kind;
-use crate::large_pages;
+use crate::large_pages::without_giving_back;
 use crate::source::rw_law::NoMemory;
 use crate::wait::now;
 use std::io;
@@ -167,11 +167,11 @@ impl DumpRequest {
     pub(crate) fn begin(mut self) {
         let (recorder, told) = (self.recorder.0.clone(), self.told.clone());
         let named = thread::Builder::new().name("yovanelum dump".to_string());
-        let spawned = named.spawn(move || {
-            large_pages::leave_to_the_allocator();
+        let written_apart = move || {
             let written = panic::catch_unwind(AssertUnwindSafe(|| writing::write(&mut self)));
             self.end(written.unwrap_or_else(|_| Err(io::Error::other("it panicked"))));
-        });
+        };
+        let spawned = named.spawn(|| without_giving_back(written_apart));
         if let Err(error) = spawned {
             let error = io::Error::new(error.kind(), format!("no thread for it: {error}"));
             let _ = told.send(count(&recorder, Err(error)));
