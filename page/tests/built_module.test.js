@@ -44,6 +44,7 @@ test("a run that is closed leaves its memory to the next", () => {
     assert.ok(engine.hold(journal));
     engine.ofHeld("ttd_ask", [new TextEncoder().encode("goto 9000\nstate\nrback actor 0\n")]);
     engine.ofHeld("ttd_held_found");
+    engine.debug(journal, new Uint8Array());
     return engine.exports.memory.buffer.byteLength;
   });
   assert.deepEqual(sizes.slice(2), sizes.slice(2).map(() => sizes[2]), "the memory grows with each run");

@@ -62,6 +62,15 @@ test("a run is held until the next is", () => {
   assert.deepEqual(calls, ["open", "ttd_ask", "close", "open"]);
 });
 
+test("that there is no memory for a run is no fault of its text", () => {
+  for (const [refused, message] of [[0n, "ttd_open gave up, and no memory was refused"], [1n, "no memory"]]) {
+    const { engine } = holder();
+    const counts = [0n, refused];
+    Object.assign(engine.exports, { ttd_open: () => NO_MEMORY, host_refused: () => counts.shift() });
+    assert.throws(() => engine.hold(text("a")), { message });
+  }
+});
+
 test("a text with a fault is not held, and neither is the run before it", () => {
   const { engine, calls } = holder();
   engine.hold(text("a"));

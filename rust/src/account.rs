@@ -40,7 +40,7 @@ use failure::{Failure, FailureAt};
 use finding::Finding;
 use history::History;
 use naming::Naming;
-use times::Times;
+use times::WindowTimes;
 use traffic::Traffic;
 use window::WindowSaid;
 
@@ -56,7 +56,7 @@ struct Context<'a> {
     names: &'a Names,
     history: &'a History,
     naming: &'a Naming<'a>,
-    times: Times<'a>,
+    times: WindowTimes<'a>,
     failure: &'a Failure,
     findings: &'a Findings,
     traffic: &'a Traffic,
@@ -201,7 +201,7 @@ impl Account {
             names,
             history,
             naming: &Naming::new(names, history),
-            times: Times::of(names),
+            times: WindowTimes::of(names),
             failure: &Failure::of(run, names, history),
             findings,
             traffic: &Traffic::of(run, names, findings)?,

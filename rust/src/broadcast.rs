@@ -72,7 +72,7 @@ pub use sender::Sender;
 pub use weak::WeakSender;
 
 use crate::backend::OpenFault;
-use crate::channel::{Channel, ChannelState, CoreChannel, RecordedChannel, call_site};
+use crate::channel::{ChannelState, CoreChannel, RecordedChannel, TypedChannel, call_site};
 use crate::guarded_by::GuardedBy;
 use crate::handle::ChannelHandle;
 use crate::lock::lock;
@@ -127,6 +127,6 @@ fn open<T>(capacity: usize) -> (Sender<T>, Receiver<T>) {
     };
     let recorded = RecordedChannel::add(core, 0, call_site());
     let values = GuardedBy::new(&*lock(&recorded.state), Values::new(capacity));
-    let (sender, receiver) = ChannelHandle::first_two(Channel::new(recorded, values));
+    let (sender, receiver) = ChannelHandle::first_two(TypedChannel::new(recorded, values));
     (Sender { handle: sender }, Receiver { handle: receiver })
 }

@@ -92,15 +92,15 @@ impl RecordedChannel {
 
 /// A channel with its values, which are of the type `T`. `S` is how they are stored: a broadcast
 /// stores several, and a watch one.
-pub(crate) struct Channel<T, S> {
+pub(crate) struct TypedChannel<T, S> {
     pub(crate) recorded: RecordedChannel,
     pub(crate) values: S,
     text_of: OnceLock<TextOf<T>>,
 }
 
-impl<T, S> Channel<T, S> {
-    pub(crate) fn new(recorded: RecordedChannel, values: S) -> Channel<T, S> {
-        Channel {
+impl<T, S> TypedChannel<T, S> {
+    pub(crate) fn new(recorded: RecordedChannel, values: S) -> TypedChannel<T, S> {
+        TypedChannel {
             recorded,
             values,
             text_of: OnceLock::new(),

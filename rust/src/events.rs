@@ -129,11 +129,11 @@ impl ToldEvent {
 /// An event of a call, if somebody asked for it. Whoever makes the call drops this while nothing is
 /// locked: then the closure is called, and the dump is begun.
 #[derive(Default)]
-pub(crate) struct Event(Called);
+pub(crate) struct Event(EventAction);
 
 /// What is done at an event once nothing is locked.
 #[derive(Default)]
-enum Called {
+enum EventAction {
     #[default]
     Nothing,
     // What the recorder holds may be dropped, which runs user code.
@@ -182,16 +182,16 @@ impl Event {
         let own = held.as_ref().and_then(|held| find(held.hooks()));
         let event = own.or_else(|| find(&PROCESS)).map(told);
         if event.is_some() || dump.is_some() {
-            return Event(Called::Tell(Box::new(Told { event, held, dump })));
+            return Event(EventAction::Tell(Box::new(Told { event, held, dump })));
         }
-        Event(held.map_or(Called::Nothing, Called::Release))
+        Event(held.map_or(EventAction::Nothing, EventAction::Release))
     }
 }
 
 impl Drop for Event {
     #[inline]
     fn drop(&mut self) {
-        if !matches!(self.0, Called::Nothing) {
+        if !matches!(self.0, EventAction::Nothing) {
             end(mem::take(&mut self.0));
         }
     }
@@ -200,11 +200,11 @@ impl Drop for Event {
 /// Does what an event calls for.
 #[cold]
 #[inline(never)]
-fn end(called: Called) {
-    match called {
-        Called::Nothing => {}
-        Called::Release(held) => drop(held),
-        Called::Tell(told) => tell(told),
+fn end(action: EventAction) {
+    match action {
+        EventAction::Nothing => {}
+        EventAction::Release(held) => drop(held),
+        EventAction::Tell(told) => tell(told),
     }
 }
 

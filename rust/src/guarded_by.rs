@@ -1,4 +1,4 @@
-//! A value that a lock elsewhere guards.
+//! A value that a lock elsewhere guards: those of a broadcast are under the lock of their channel.
 #![allow(unsafe_code)]
 
 use std::cell::UnsafeCell;

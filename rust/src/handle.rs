@@ -2,7 +2,8 @@
 
 use crate::budget;
 use crate::channel::{
-    Call, CallSite, Channel, CoreChannel, LockedChannel, NO_SLOT, RecordedChannel, Slot, call_site,
+    Call, CallSite, CoreChannel, LockedChannel, NO_SLOT, RecordedChannel, Slot, TypedChannel,
+    call_site,
 };
 use crate::lock::lock;
 use crate::recorder::RecordedHandle;
@@ -27,7 +28,7 @@ pub(crate) enum Kind {
 /// A sender, weak sender or receiver: its channel, its number in that channel, and its kind. The
 /// public types wrap it, and make the call that drops it.
 pub(crate) struct ChannelHandle<T, S> {
-    pub(crate) channel: Arc<Channel<T, S>>,
+    pub(crate) channel: Arc<TypedChannel<T, S>>,
     pub(crate) number: u32,
     // Of a receiver, where it is in the channel's list of those that are alive.
     pub(crate) slot: Slot,
@@ -41,7 +42,7 @@ impl<T, S> RefUnwindSafe for ChannelHandle<T, S> {}
 
 impl<T, S> ChannelHandle<T, S> {
     /// Returns the two handles that the core opens each channel with: sender 0 and receiver 1.
-    pub(crate) fn first_two(channel: Channel<T, S>) -> (Self, Self) {
+    pub(crate) fn first_two(channel: TypedChannel<T, S>) -> (Self, Self) {
         let sender = ChannelHandle {
             channel: Arc::new(channel),
             number: 0,

@@ -61,7 +61,7 @@ pub use borrowed::Ref;
 pub use receiver::Receiver;
 pub use sender::Sender;
 
-use crate::channel::{Channel, CoreChannel, LockedChannel, RecordedChannel, Slot, call_site};
+use crate::channel::{CoreChannel, LockedChannel, RecordedChannel, Slot, TypedChannel, call_site};
 use crate::handle::{ChannelHandle, Kind};
 use crate::lock::lock;
 use crate::recorder::TextOf;
@@ -100,7 +100,7 @@ pub fn channel<T>(init: T) -> (Sender<T>, Receiver<T>) {
         panic!("yovanelum: no memory for a channel");
     };
     let recorded = RecordedChannel::add(core, 1, call_site());
-    let channel = Channel::new(recorded, ValueLock::new(init));
+    let channel = TypedChannel::new(recorded, ValueLock::new(init));
     let (sender, receiver) = ChannelHandle::first_two(channel);
     (Sender { handle: sender }, Receiver { handle: receiver })
 }

@@ -341,3 +341,20 @@ fn what_is_not_told_in_full_is_counted_by_kind() {
     let wanted = "and 2 more receivers lost 2 values, 1 watch's reader never looked at 1 change, 3 channels closed";
     assert_eq!(found.rest.text().unwrap(), wanted);
 }
+
+/// No sizes here are special: what gives up above one of them says that there was no memory.
+#[test]
+fn a_long_run_is_told_as_a_short_one() {
+    let mut entries: Vec<_> = (0..100_000)
+        .map(|value| format!("0 0 send 0 {value} = sent 1"))
+        .collect();
+    entries.extend((1..=50_000).map(|value| format!("0 1 send 0 {value} = stored")));
+    entries.extend((2..20_002).map(|new| format!("0 0 subscribe 0 = new {new}")));
+    let entries: Vec<_> = entries.iter().map(String::as_str).collect();
+    let found = account(&["broadcast 2", "watch 0"], &entries, "{}");
+    let wanted = [
+        "receiver 1 lost 99998 of 100000 values of channel 0 (capacity 2)",
+        "receiver 1 never looked at 50000 of 50000 changes of channel 1",
+    ];
+    assert_eq!(heads(&found), wanted);
+}

@@ -14,7 +14,7 @@ const UNITS: [(&str, u64, u64); 4] = [
 ];
 
 /// The times that a window knows.
-pub(super) struct Times<'a> {
+pub(super) struct WindowTimes<'a> {
     // The last one is that of the dump.
     known: &'a [Moment],
 }
@@ -29,15 +29,15 @@ pub(crate) struct CallTime {
     is_on_day_of_dump: bool,
 }
 
-impl<'a> Times<'a> {
+impl<'a> WindowTimes<'a> {
     /// Without a window no times are told.
-    pub(super) fn of(names: &'a Names) -> Times<'a> {
+    pub(super) fn of(names: &'a Names) -> WindowTimes<'a> {
         let known = if names.window.is_some() {
             &names.times[..]
         } else {
             &[]
         };
-        Times { known }
+        WindowTimes { known }
     }
 
     /// Returns when the call with this stamp was made, if there are times around it. Between two of
@@ -187,7 +187,7 @@ mod tests {
             [30, 1_795_921_964_620, 22_500_000],
             [40, 1_795_921_965_120, 23_000_000],
         ]);
-        let times = Times::of(&names);
+        let times = WindowTimes::of(&names);
         let text = |stamp| times.at(stamp).map(|time| time.text());
         let wanted = |text: &str| Some(text.to_string());
         assert_eq!((text(9), text(41)), (None, None));
@@ -211,13 +211,13 @@ mod tests {
             [10, 1_795_910_399_000, 0],
             [20, 1_795_910_401_000, 2_000_000],
         ]);
-        let times = Times::of(&names);
+        let times = WindowTimes::of(&names);
         let text = times.at(10).unwrap().text();
         assert_eq!(text, "at 2026-11-28 23:59:59.000 UTC, 2 s before the dump");
         let alone = Names {
             window: None,
             ..names
         };
-        assert!(Times::of(&alone).at(10).is_none());
+        assert!(WindowTimes::of(&alone).at(10).is_none());
     }
 }

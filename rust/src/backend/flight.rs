@@ -4,9 +4,9 @@ use super::Actor;
 use crate::shim::alloc::Global;
 use crate::source::rw_journal;
 use crate::source::rw_law::NoMemory;
-use crate::source::rw_recording::{self as core, Recording};
+use crate::source::rw_recording::{self, Recording};
 
-pub(crate) use core::WindowFault;
+pub(crate) use rw_recording::WindowFault;
 
 /// How many calls a channel keeps at most in each of its two chunks.
 pub(crate) use rw_journal::MOST_CHUNK;
@@ -18,10 +18,10 @@ pub(crate) const ENTRIES_AT_MOST: u64 = rw_journal::MOST_ENTRIES as u64;
 pub(crate) const LEAD: Actor = Actor(Actor::MOST as u32 - 1);
 
 /// The last calls of a channel, and the channel as it was before them.
-pub(crate) struct Kept(core::Kept);
+pub(crate) struct Kept(rw_recording::Kept);
 
 impl Kept {
-    pub(super) fn of(kept: core::Kept) -> Kept {
+    pub(super) fn of(kept: rw_recording::Kept) -> Kept {
         Kept(kept)
     }
 
@@ -52,7 +52,7 @@ impl Kept {
 }
 
 /// The lead of a window, before the calls that were kept.
-pub(crate) struct Lead(core::Lead);
+pub(crate) struct Lead(rw_recording::Lead);
 
 impl Lead {
     /// How many entries it has.
@@ -82,7 +82,7 @@ impl Lead {
 }
 
 /// A window of a channel: first a lead, and then the calls that were kept.
-pub(crate) struct Window(core::Window);
+pub(crate) struct Window(rw_recording::Window);
 
 impl Window {
     pub(super) fn recording(&self) -> &Recording {

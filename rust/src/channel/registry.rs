@@ -6,7 +6,7 @@ use crate::lock::lock;
 use std::sync::{Arc, Mutex, Weak};
 
 /// A channel of the list.
-struct Entry {
+struct Listed {
     // In the order in which channels were created.
     number: u64,
     // The number of the channel's recorder, if it has one.
@@ -17,7 +17,7 @@ struct Entry {
 /// The list. The slot of a channel is used again once it is gone.
 struct All {
     next: u64,
-    slots: Vec<Option<Entry>>,
+    slots: Vec<Option<Listed>>,
     free: Vec<usize>,
 }
 
@@ -37,7 +37,7 @@ impl Registered {
         let mut all = lock(&ALL);
         let number = all.next;
         all.next += 1;
-        let entry = Some(Entry {
+        let entry = Some(Listed {
             number,
             recorder,
             state,

@@ -22,7 +22,7 @@ pub(super) enum Timer {
 }
 
 /// The numbers of system calls in which a thread waits for time.
-struct Numbers {
+struct CallNumbers {
     nanosleep: i64,
     clock_nanosleep: i64,
     futex: i64,
@@ -36,14 +36,14 @@ struct Numbers {
 }
 
 #[cfg(target_arch = "x86_64")]
-const NUMBERS: Option<Numbers> = Some(X86_64);
+const NUMBERS: Option<CallNumbers> = Some(X86_64);
 #[cfg(target_arch = "aarch64")]
-const NUMBERS: Option<Numbers> = Some(AARCH64);
+const NUMBERS: Option<CallNumbers> = Some(AARCH64);
 #[cfg(not(any(target_arch = "x86_64", target_arch = "aarch64")))]
-const NUMBERS: Option<Numbers> = None;
+const NUMBERS: Option<CallNumbers> = None;
 
 #[allow(dead_code)]
-const X86_64: Numbers = Numbers {
+const X86_64: CallNumbers = CallNumbers {
     nanosleep: 35,
     clock_nanosleep: 230,
     futex: 202,
@@ -58,7 +58,7 @@ const X86_64: Numbers = Numbers {
 
 /// It has no `epoll_wait`, `poll` and `select`.
 #[allow(dead_code)]
-const AARCH64: Numbers = Numbers {
+const AARCH64: CallNumbers = CallNumbers {
     nanosleep: 101,
     clock_nanosleep: 115,
     futex: 98,
@@ -85,7 +85,7 @@ pub(super) fn doing(line: &str) -> Doing {
     NUMBERS.map_or(Doing::Runs, |numbers| numbers.doing(line))
 }
 
-impl Numbers {
+impl CallNumbers {
     fn doing(&self, line: &str) -> Doing {
         let mut words = line.split_ascii_whitespace();
         let Some(Ok(number)) = words.next().map(str::parse::<i64>) else {

@@ -12,7 +12,7 @@ const PAUSE: Duration = BETWEEN_LOOKS.checked_mul(4).unwrap();
 const COUNTED: Duration = BETWEEN_LOOKS.checked_div(16).unwrap();
 
 /// A clock that counts how long the program runs.
-pub(super) struct Clock {
+pub(super) struct RunningClock {
     ran: Duration,
     looked_at: Instant,
 }
@@ -28,9 +28,9 @@ impl Time {
     }
 }
 
-impl Clock {
-    pub(super) fn new() -> Clock {
-        Clock {
+impl RunningClock {
+    pub(super) fn new() -> RunningClock {
+        RunningClock {
             ran: Duration::ZERO,
             looked_at: Instant::now(),
         }
@@ -59,7 +59,7 @@ mod tests {
 
     #[test]
     fn the_clock_stands_still_where_nobody_has_looked_for_long() {
-        let mut clock = Clock::new();
+        let mut clock = RunningClock::new();
         let start = clock.looked_at;
         let (look, hour) = (BETWEEN_LOOKS, Duration::from_secs(3600));
         assert_eq!(clock.at(start + look), Time(look));

@@ -11,7 +11,7 @@ use std::time::Duration;
 
 /// What has come in place of the call that was expected.
 #[derive(Clone, Copy)]
-pub(super) enum Came {
+pub(super) enum CameInstead {
     /// Another call.
     Other,
     /// Nothing for so long, while this call waited.
@@ -24,7 +24,7 @@ pub(super) enum Came {
 pub(super) fn in_words(
     plan: &Plan,
     state: &GateState,
-    came: Came,
+    came: CameInstead,
     coming: Option<&Coming>,
 ) -> String {
     let mut words = format!("diverges at {}: expected ", call_of(plan, state.position));
@@ -34,13 +34,13 @@ pub(super) fn in_words(
     let call = coming.map(|coming| call_in_words(plan, state, coming));
     let call = call.unwrap_or_default();
     let _ = match came {
-        Came::Other => write!(words, ", came {call}"),
-        Came::Nothing(limit) => write!(
+        CameInstead::Other => write!(words, ", came {call}"),
+        CameInstead::Nothing(limit) => write!(
             words,
             ", came nothing for {} ms, while {call} waited",
             limit.as_millis()
         ),
-        Came::ToWait => write!(words, ", came the same call, which had to wait"),
+        CameInstead::ToWait => write!(words, ", came the same call, which had to wait"),
     };
     words + &of_questions(plan, state, coming) + of_tasks(plan, state)
 }

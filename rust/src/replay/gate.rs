@@ -3,7 +3,7 @@
 
 mod futures;
 
-use super::divergence::{self, Came};
+use super::divergence::{self, CameInstead};
 use super::outcome::{self, Replayed, TestEnd};
 use super::permit::Permit;
 use super::plan::Plan;
@@ -215,7 +215,7 @@ impl Gate {
             match standing {
                 Standing::Turn => return (state, true),
                 Standing::Other(_) => {
-                    self.diverge(&mut state, Came::Other, Some(coming));
+                    self.diverge(&mut state, CameInstead::Other, Some(coming));
                     break;
                 }
                 Standing::Later | Standing::Unknown => (),
@@ -224,9 +224,9 @@ impl Gate {
             let since = began.max(state.turned_at);
             if state.clock.since(since) >= limit {
                 let came = if is_own {
-                    Came::Other
+                    CameInstead::Other
                 } else {
-                    Came::Nothing(limit)
+                    CameInstead::Nothing(limit)
                 };
                 self.diverge(&mut state, came, Some(coming));
                 break;
@@ -330,7 +330,7 @@ impl Gate {
     pub(super) fn would_wait(&self) {
         let mut state = self.enter();
         if !state.is_over {
-            self.diverge(&mut state, Came::ToWait, None);
+            self.diverge(&mut state, CameInstead::ToWait, None);
         }
     }
 
@@ -359,7 +359,7 @@ impl Gate {
     }
 
     /// Leaves the journal's order, and says so. What came is of this call.
-    fn diverge(&self, state: &mut GateState, came: Came, coming: Option<&Coming>) {
+    fn diverge(&self, state: &mut GateState, came: CameInstead, coming: Option<&Coming>) {
         let line = divergence::in_words(&self.plan, state, came, coming);
         outcome::say(&format!(
             "the replay {line}; from here on, calls are in no order"

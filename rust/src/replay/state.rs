@@ -1,6 +1,6 @@
 //! Where a replay stands, and who waits for their turn. The gate locks it.
 
-use super::clock::{Clock, Time};
+use super::clock::{RunningClock, Time};
 use super::outcome;
 use super::plan::{NONE, Plan};
 use super::{Coming, Identity};
@@ -102,7 +102,7 @@ pub(super) struct GateState {
     pub(super) is_helper_idle: bool,
     /// What the helper is to wake.
     pub(super) woken: Vec<Waker>,
-    pub(super) clock: Clock,
+    pub(super) clock: RunningClock,
     pub(super) turned_at: Time,
     /// The index of the call before which a debugger stops, until it has.
     pub(super) stop_at: Option<usize>,
@@ -151,7 +151,7 @@ impl GateState {
             asked: None,
             called_at: None,
         };
-        let mut clock = Clock::new();
+        let mut clock = RunningClock::new();
         GateState {
             position: 0,
             is_given: false,

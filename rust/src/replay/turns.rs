@@ -1,4 +1,5 @@
-//! What orders the calls of a channel.
+//! What orders the calls of a channel, which asks before each of them: the gate of a replay, or the
+//! explorer of a run.
 
 use super::Coming;
 use super::gate::Gate;

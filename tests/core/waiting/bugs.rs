@@ -40,7 +40,7 @@ pub const SMALLER: [Edit; 4] = [
 ];
 
 /// The bugs of seats.
-const SEATS: [Bug; 6] = [
+const SEATS: [Bug; 7] = [
     Bug {
         name: "a_seat_parks_while_the_book_is_free",
         edit: Edit {
@@ -84,6 +84,15 @@ const SEATS: [Bug; 6] = [
             new: "if sleepers.load(SeqCst) > 1 {",
         },
     },
+    // Two seats can't show it, since one of them doesn't sleep.
+    Bug {
+        name: "a_release_wakes_nobody_where_two_sleep",
+        edit: Edit {
+            file: "rw_seat/acquiring.rs",
+            old: "if sleepers.load(SeqCst) > 0 {",
+            new: "if sleepers.load(SeqCst) == 1 {",
+        },
+    },
     Bug {
         name: "a_seat_tries_a_full_journal_eleven_times",
         edit: Edit {
@@ -107,7 +116,7 @@ const SEATS: [Bug; 6] = [
 ];
 
 /// The bugs of a channel's lock.
-const LOCKS: [Bug; 6] = [
+const LOCKS: [Bug; 7] = [
     Bug {
         name: "a_looker_isnt_told",
         edit: Edit {
@@ -153,6 +162,15 @@ const LOCKS: [Bug; 6] = [
         if is_news && has_sleepers && !has_lookers {",
         },
     },
+    // Two threads can't show it, since one of them doesn't sleep.
+    Bug {
+        name: "a_change_wakes_one_of_two_that_sleep",
+        edit: Edit {
+            file: "rw_desk/channel_lock.rs",
+            old: "self.changed.notify_all();",
+            new: "self.changed.notify_one();",
+        },
+    },
     Bug {
         name: "a_desk_tries_a_full_journal_eleven_times",
         edit: Edit {
@@ -176,8 +194,8 @@ const LOCKS: [Bug; 6] = [
 ];
 
 /// All bugs.
-pub const BUGS: [Bug; 12] = {
-    let [a, b, c, d, e, f] = SEATS;
-    let [g, h, i, j, k, l] = LOCKS;
-    [a, b, c, d, e, f, g, h, i, j, k, l]
+pub const BUGS: [Bug; 14] = {
+    let [a, b, c, d, e, f, g] = SEATS;
+    let [h, i, j, k, l, m, n] = LOCKS;
+    [a, b, c, d, e, f, g, h, i, j, k, l, m, n]
 };

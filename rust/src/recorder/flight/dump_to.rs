@@ -2,7 +2,7 @@
 
 use super::super::panic_hook;
 use super::super::shared::Shared;
-use super::dumping::Settings;
+use super::dumping::DumpSettings;
 use super::on_panic;
 use std::sync::Arc;
 use std::time::Duration;
@@ -49,7 +49,7 @@ impl DumpTo {
         DumpTo(recorder.clone())
     }
 
-    fn set(self, set: impl FnOnce(&mut Settings)) -> DumpTo {
+    fn set(self, set: impl FnOnce(&mut DumpSettings)) -> DumpTo {
         if let Some(flight) = &self.0.flight {
             flight.dumping.set(set);
         }

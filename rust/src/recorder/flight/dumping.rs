@@ -10,7 +10,7 @@ use std::sync::atomic::{AtomicBool, Ordering};
 use std::time::{Duration, Instant};
 
 /// What calls for dumps, and where they are written.
-pub(super) struct Settings {
+pub(super) struct DumpSettings {
     folder: Option<PathBuf>,
     pub(super) closed: Vec<String>,
     pub(super) at_most_every: Duration,
@@ -21,7 +21,7 @@ pub(super) struct Settings {
 
 /// The dumps of a recorder.
 pub(super) struct Dumping {
-    settings: Mutex<Settings>,
+    settings: Mutex<DumpSettings>,
     // How many values a receiver has lost at least that calls for a dump: none does, if this is the
     // greatest number. It is read at each lag, so no lock is about it.
     least_lost: AtomicU64,
@@ -35,7 +35,7 @@ pub(super) struct Dumping {
 impl Default for Dumping {
     fn default() -> Dumping {
         Dumping {
-            settings: Mutex::new(Settings {
+            settings: Mutex::new(DumpSettings {
                 folder: None,
                 closed: Vec::new(),
                 at_most_every: Duration::from_secs(60),
@@ -56,7 +56,7 @@ impl Dumping {
         lock(&self.settings).folder = Some(folder.to_path_buf());
     }
 
-    pub(super) fn set(&self, set: impl FnOnce(&mut Settings)) {
+    pub(super) fn set(&self, set: impl FnOnce(&mut DumpSettings)) {
         set(&mut lock(&self.settings));
     }
 
@@ -71,7 +71,7 @@ impl Dumping {
     }
 
     /// Whether these settings call for a dump.
-    pub(super) fn are(&self, wanted: impl FnOnce(&Settings) -> bool) -> bool {
+    pub(super) fn are(&self, wanted: impl FnOnce(&DumpSettings) -> bool) -> bool {
         wanted(&lock(&self.settings))
     }
 

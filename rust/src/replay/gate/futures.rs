@@ -1,7 +1,7 @@
 //! How futures wait before the gate: they are pending, and the polls of named ones are held back.
 
 use super::super::clock::Time;
-use super::super::divergence::Came;
+use super::super::divergence::CameInstead;
 use super::super::permit::Permit;
 use super::super::state::{GateState, HeldPoll, Standing, Ticket, Waiter};
 use super::super::{Coming, Identity};
@@ -141,7 +141,7 @@ impl Gate {
         let mut waiters = state.waiters.values();
         if let Some(late) = waiters.find(|waiter| idle(waiter.since) >= limit) {
             let coming = late.coming;
-            return self.diverge(state, Came::Nothing(limit), Some(&coming));
+            return self.diverge(state, CameInstead::Nothing(limit), Some(&coming));
         }
         for actor in 0..Actor::MOST {
             let of = &mut state.actors[actor];

@@ -3,7 +3,7 @@
 
 use super::{JOURNAL, NAMES, PATIENT, make_first, plan_of, told};
 use crate::explore::{Asked, Threads, this_thread};
-use crate::replay::clock::Clock;
+use crate::replay::clock::RunningClock;
 use crate::replay::gate::Gate;
 use crate::replay::helper;
 use crate::replay::rest::RestWatch;
@@ -40,7 +40,7 @@ fn is_alone(test: &str) -> bool {
 
 /// Looks until all are seen to sleep, or for so many times in vain.
 fn is_seen(rest: &mut RestWatch, times: usize) -> bool {
-    let now = Clock::new().now();
+    let now = RunningClock::new().now();
     (0..times).any(|_| {
         thread::yield_now();
         rest.is_seen(now, &[])

@@ -12,4 +12,5 @@ mod names;
 mod own_channels;
 mod same_answers;
 mod streams;
+mod texts;
 mod wakes;

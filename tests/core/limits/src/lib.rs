@@ -1,6 +1,8 @@
 //! Each public function that has a limit, once at it and once one below, where it does all that is asked; and once above, where it says that
 //! this is too much. A function without a limit of its own is at the greatest that it can be given.
 //!
+//! What takes long at its limit is run there where that is asked for, and else at a part of it.
+//!
 //! `covered` says for each function that compares something with a limit which row it is, so that none is without one.
 //!
 //! No contract can refuse a body that gives up for lack of memory above some size. Here memory is there, so such a body fails. How many
@@ -53,6 +55,15 @@ fn holds(limit: &Limit) {
     }
 }
 
+/// What takes long at its limit is tried at the limit divided by this.
+const PART: u64 = 8;
+
+/// Tries a function at a part of its limit.
+fn takes_part(limit: &Limit) {
+    let size = limit.most / PART;
+    assert!((limit.takes)(size), "{} refuses {size}", limit.function);
+}
+
 /// The table. After `to` more is refused, and after `of` no more can be asked for. Rows that are `slow` run where they are asked for.
 macro_rules! limits {
     ($($function:literal $word:ident $most:literal, $seconds:literal s $($slow:ident)?: $part:ident::$name:ident;)+) => {
@@ -61,17 +72,29 @@ macro_rules! limits {
 
         $(
             mod $name {
-                #[test]
-                $(#[ignore = "tests/core/test slow runs it"] #[doc = stringify!($slow)])?
-                fn at_its_limit() {
-                    super::holds(&super::Limit {
+                fn limit() -> super::Limit {
+                    super::Limit {
                         function: $function,
                         most: $most,
                         seconds: $seconds,
                         takes: super::$part::$name,
                         has_more: stringify!($word) == "to",
-                    });
+                    }
                 }
+
+                #[test]
+                $(#[ignore = "tests/core/test slow runs it"] #[doc = stringify!($slow)])?
+                fn at_its_limit() {
+                    super::holds(&limit());
+                }
+
+                $(
+                    #[test]
+                    #[doc = stringify!($slow)]
+                    fn at_a_part_of_its_limit() {
+                        super::takes_part(&limit());
+                    }
+                )?
             }
         )+
     };

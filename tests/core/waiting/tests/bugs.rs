@@ -35,18 +35,20 @@ macro_rules! row {
 }
 
 /// All bugs, in their order.
-static ROWS: [Row; 12] = [
+static ROWS: [Row; 14] = [
     row!(Sleeps: a_seat_parks_while_the_book_is_free, seats::two_send),
     row!(Spins: a_seat_never_parks, seats::two_send),
     row!(Sleeps: a_seat_parks_uncounted, seats::two_send),
     row!(Sleeps: a_release_counts_before_it_frees, seats::two_send),
     row!(Sleeps: a_release_wakes_a_second_sleeper_alone, seats::two_send),
+    row!(Sleeps: a_release_wakes_nobody_where_two_sleep, seats::three_send),
     row!(Spins: a_seat_tries_a_full_journal_eleven_times, seats::calls_when_full),
     row!(Sleeps: a_looker_isnt_told, locks::one_waits),
     row!(Sleeps: a_sleeper_isnt_noted, locks::one_waits),
     row!(Sleeps: a_change_after_the_looks_is_missed, locks::one_waits),
     row!(Spins: a_waiting_call_never_sleeps, locks::one_waits),
     row!(Sleeps: a_change_that_is_told_to_lookers_wakes_nobody, locks::one_waits),
+    row!(Sleeps: a_change_wakes_one_of_two_that_sleep, locks::two_wait),
     row!(Spins: a_desk_tries_a_full_journal_eleven_times, locks::calls_when_full),
 ];
 

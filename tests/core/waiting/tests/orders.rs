@@ -49,6 +49,13 @@ fn three_seats_send() {
     finds_nothing(FEW, seats::three_send);
 }
 
+/// It takes as long as all the others.
+#[test]
+#[ignore = "tests/core/test slow runs it"]
+fn three_seats_send_in_every_order() {
+    finds_nothing(ALL, seats::three_send);
+}
+
 #[test]
 fn two_seats_meet() {
     finds_nothing(ALL, seats::two_meet);
@@ -66,12 +73,12 @@ fn a_thread_waits_that_may_wake_without_a_reason() {
 
 #[test]
 fn two_threads_wait_for_one_value() {
-    finds_nothing(FEW, locks::two_wait);
+    finds_nothing(ALL, locks::two_wait);
 }
 
 #[test]
 fn a_thread_waits_beside_two_that_call() {
-    finds_nothing(FEW, locks::one_waits_beside_two);
+    finds_nothing(ALL, locks::one_waits_beside_two);
 }
 
 /// A call where the journal is full acquires its channel once.

@@ -128,4 +128,9 @@ impl Condvar {
     pub fn notify_all(&self) {
         self.0.wake("notify all", true);
     }
+
+    /// For a bug alone.
+    pub fn notify_one(&self) {
+        self.0.wake("notify one", false);
+    }
 }
