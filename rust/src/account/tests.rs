@@ -132,6 +132,20 @@ fn a_panic_that_was_caught_is_not_the_end() {
 }
 
 #[test]
+fn the_end_is_the_first_panic_after_which_its_actor_drops_alone() {
+    // Actor 1 calls right before its panic. Actor 0 drops `a` and the sender after its own.
+    for panics in [[(1, 10), (0, 12)], [(0, 10), (1, 12)]] {
+        let panics = panics.map(|(actor, since)| {
+            format!(r#"{{"text": "", "location": null, "actor": {actor}, "since": {since}}}"#)
+        });
+        let names = format!("{FOUR_NAMES}\"panics\": [{}]}}", panics.join(", "));
+        let found = account(&["broadcast 1"], &FOUR, &names);
+        let text = found.facts.last().unwrap().text();
+        assert!(text[2].starts_with("  the panic   not told"), "{text:#?}");
+    }
+}
+
+#[test]
 fn a_test_that_returns_an_error_has_failed_there() {
     let names = r#""test": {"package": "", "target": "", "name": "x", "thread": "tests::x"}, "actors": {"1": "tests::x"},
         "locations": [["a.rs", 5, 9]], "returned": {"location": 0, "since": 9}}"#;

@@ -170,6 +170,31 @@ fn changes_of_the_lead_came_to_nobody() {
 }
 
 #[test]
+fn a_change_of_the_lead_that_was_marked_by_no_look_is_marked() {
+    // Receiver 2 marks what the lead has sent, by `mark_unchanged`. It looks at the one change of
+    // the window, and doesn't mark it.
+    let entries = [
+        "63 1 subscribe 0 = new 2",
+        "63 1 send-replace 0 5 = old 5",
+        "0 1 update 1 = value 5",
+        "0 1 mark-unchanged 2 = done",
+        "0 1 has-changed 2 = flag no",
+        "0 1 send 0 6 = stored",
+        "0 1 update 1 = value 6",
+        "0 1 borrow 2 = value 6",
+    ];
+    let state = r#""lead": 2, "calls": 90, "sent": null, "handles": [0, 4, 6], "lags": {}"#;
+    let bus = r#""lead": 0, "calls": 0, "sent": 0, "handles": [0, 1], "lags": {}"#;
+    let found = account(
+        &["broadcast 1", "watch 5"],
+        &entries,
+        &names(2, bus, state, ""),
+    );
+    let wanted = "receiver 6 never marked 1 of 1 change of `state` as seen in the window";
+    assert_eq!(heads(&found), [wanted]);
+}
+
+#[test]
 fn what_failed_or_waits_since_before_the_window_is_so_at_its_beginning() {
     let entries = [
         "63 0 subscribe 0 = new 2",
