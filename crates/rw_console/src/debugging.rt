@@ -6,9 +6,10 @@ ghost use Rattle.rw_console.specs.Report.{commands_report};
 ghost use Rattle.rw_console.specs.Streams.{Always, Answers, Stops};
 
 use crate::console::commands;
-use crate::sessions::{MOST_BYTES, SessionFault};
+use crate::sessions::MOST_BYTES;
 use crate::walk::Walk;
 use rw_journal::Run;
+use rw_lines::StreamFault;
 use rw_navigator::Move;
 use std::alloc::Global;
 use std::io::{Read, Write};
@@ -20,14 +21,14 @@ pub fn debug<R: Read, W: Write>(
     run: &Run<u64>,
     reader: &mut R,
     writer: &mut W,
-) -> Result<(), SessionFault>
+) -> Result<(), StreamFault>
     ensures ok { OnOk result (Answers (R.remaining reader.old) (R.remaining reader.new) (W.contents writer.old) (W.contents writer.new)
         (commands_report run.now (last_place run.now)) MOST_BYTES) }
     ensures err { IfErr result (Stops (R.remaining reader.old) (R.remaining reader.new) (W.contents writer.old) (W.contents writer.new)
         (commands_report run.now (last_place run.now)) Always MOST_BYTES) }
 {
     let Ok(mut walk) = Walk::open(alloc, run) else {
-        return Err(SessionFault::NoMemory);
+        return Err(StreamFault::NoMemory);
     };
     let answered = debug_again(alloc, &mut walk, reader, writer);
     drop(walk);
@@ -40,7 +41,7 @@ pub fn debug_again<R: Read, W: Write>(
     walk: &mut Walk,
     reader: &mut R,
     writer: &mut W,
-) -> Result<(), SessionFault>
+) -> Result<(), StreamFault>
     ensures ok { OnOk result (Answers (R.remaining reader.old) (R.remaining reader.new) (W.contents writer.old) (W.contents writer.new)
         (commands_report walk.old.run (last_place walk.old.run)) MOST_BYTES) }
     ensures err { IfErr result (Stops (R.remaining reader.old) (R.remaining reader.new) (W.contents writer.old) (W.contents writer.new)

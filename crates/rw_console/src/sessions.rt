@@ -13,8 +13,7 @@ use crate::console::commands;
 use crate::reading::{SessionScript, read_script};
 use crate::session_lines::{fault_line, waiting_line};
 use crate::walk::Walk;
-pub use rw_lines::StreamFault as SessionFault;
-use rw_lines::put_whole;
+use rw_lines::{StreamFault, put_whole};
 use rw_navigator::Debugger;
 use rw_script::{Played, Script, ScriptFault, play};
 use std::alloc::Global;
@@ -35,12 +34,12 @@ pub enum Outcome {
 pub const MOST_BYTES: u64 = 268_435_456;
 
 /// Writes a script's fault. On an error, a prefix of it was written.
-fn refuse<W: Write>(alloc: Global, writer: &mut W, fault: ScriptFault) -> Result<(), SessionFault>
+fn refuse<W: Write>(alloc: Global, writer: &mut W, fault: ScriptFault) -> Result<(), StreamFault>
     ensures ok { OnOk result (Appends (W.contents writer.old) (W.contents writer.new) (fault_line fault)) }
     ensures err { IfErr result (StopsWriting (W.contents writer.old) (W.contents writer.new) (fault_line fault)) }
 {
     let Ok(line) = fault_line(alloc, fault) else {
-        return Err(SessionFault::NoMemory);
+        return Err(StreamFault::NoMemory);
     };
     put_whole(writer, line.as_bytes())
 }
@@ -50,7 +49,7 @@ fn say_waiting<W: Write>(
     alloc: Global,
     writer: &mut W,
     waits: Option<u64>,
-) -> Result<(), SessionFault>
+) -> Result<(), StreamFault>
     ensures ok { OnOk result (Appends (W.contents writer.old) (W.contents writer.new) (waiting_line waits)) }
     ensures err { IfErr result (StopsWriting (W.contents writer.old) (W.contents writer.new) (waiting_line waits)) }
 {
@@ -58,7 +57,7 @@ fn say_waiting<W: Write>(
         return Ok(());
     };
     let Ok(line) = waiting_line(alloc, number) else {
-        return Err(SessionFault::NoMemory);
+        return Err(StreamFault::NoMemory);
     };
     put_whole(writer, line.as_bytes())
 }
@@ -69,7 +68,7 @@ fn begin<W: Write>(
     alloc: Global,
     script: Script,
     writer: &mut W,
-) -> Result<(Walk, Option<u64>), SessionFault>
+) -> Result<(Walk, Option<u64>), StreamFault>
     ensures run { IfOk result (λ p. p.0.run ≡ recording_of script) }
     ensures place { IfOk result (λ p. p.0.place ≡ last_place p.0.run) }
     ensures waits { IfOk result (λ p. p.1 ≡ (run_of script).waits) }
@@ -79,7 +78,7 @@ fn begin<W: Write>(
     let played = play(alloc, &script);
     drop(script);
     let Ok(Played { specs, book, waits }) = played else {
-        return Err(SessionFault::NoMemory);
+        return Err(StreamFault::NoMemory);
     };
     let walk = Walk::at_end(alloc, Debugger::of_book(specs, book));
     match say_waiting(alloc, writer, waits) {
@@ -107,7 +106,7 @@ pub fn session<R: Read, W: Write>(
     alloc: Global,
     reader: &mut R,
     writer: &mut W,
-) -> Result<Outcome, SessionFault>
+) -> Result<Outcome, StreamFault>
     ensures ok { IfOk result (λ o. (done : Answers (R.remaining reader.old) (R.remaining reader.new)
         (W.contents writer.old) (W.contents writer.new) report MOST_BYTES)
         × (outcome done.bytes ≡ o)) }

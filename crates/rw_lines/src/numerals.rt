@@ -19,16 +19,6 @@ fn digits(token: &[u8]) -> Option<u64>
     Some(n)
 }
 
-fn exact_numeral(token: &[u8]) -> Option<u64>
-    ensures { result ≡ numeral_in token.now }
-{
-    match token {
-        [] => None,
-        [b'0', _, ..] => None,
-        _ => digits(token),
-    }
-}
-
 /// Returns the number of a numeral: `0`, or digits with no 0 in front, below 2^64.
 pub fn numeral(token: &[u8]) -> Option<u64>
     ensures exact { result ≡ numeral_in token.now }
@@ -36,7 +26,11 @@ pub fn numeral(token: &[u8]) -> Option<u64>
     ensures named { IfSome result (λ n. (token.now ≡ decimal n) × (n < 2 ^ 64)) }
     ensures only { (n : ℕ) → n < 2 ^ 64 → token.now ≡ decimal n → result ≡ Some n }
 {
-    exact_numeral(token)
+    match token {
+        [] => None,
+        [b'0', _, ..] => None,
+        _ => digits(token),
+    }
 }
 
 /// Appends a number in decimal. On `Err`, nothing was appended.

@@ -4,18 +4,15 @@ ghost use Rattle.std.specs.Prelude.{◌≡◌, ◌++◌, IfOk, OnOk};
 ghost use Rattle.rw_page.specs.HeldPages.{answers_of, state_line, state_lines};
 ghost use Rattle.rw_page.specs.Pages.{IsWithin};
 
-use rw_console::{MOST_BYTES, SessionFault, Walk, debug_again};
+use rw_console::{MOST_BYTES, Walk, debug_again};
 use rw_law::NoMemory;
+use rw_lines::StreamFault;
 use rw_navigator::Move;
 use std::alloc::{AllocError, Global};
 
 /// Returns what commands write over the run. Only if more than `MOST_BYTES` bytes of them would have to be read, it returns
 /// `TooMuch`.
-pub fn answers_page(
-    alloc: Global,
-    walk: &mut Walk,
-    commands: &[u8],
-) -> Result<Vec<u8>, SessionFault>
+pub fn answers_page(alloc: Global, walk: &mut Walk, commands: &[u8]) -> Result<Vec<u8>, StreamFault>
     ensures text { IfOk result (λ text. text.items ≡ answers_of walk.old.run commands.now) }
     ensures limit { OnOk result (IsWithin MOST_BYTES (answers_of walk.old.run) commands.now) }
     ensures run { walk.new.run ≡ walk.old.run }

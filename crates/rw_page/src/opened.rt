@@ -15,10 +15,11 @@ use crate::found_lines::found_text;
 use crate::held_pages::{answers_page, states_page};
 use crate::loss_lines::losses_text;
 use crate::peak_lines::peaks_text;
-use rw_console::{MOST_BYTES, PausedWalk, SessionFault, Walk};
+use rw_console::{MOST_BYTES, PausedWalk, Walk};
 use rw_findings::Stretches;
 use rw_journal::Run;
 use rw_law::NoMemory;
+use rw_lines::StreamFault;
 use rw_text::TextFault;
 use std::alloc::Global;
 use std::marker::Model;
@@ -63,7 +64,7 @@ impl Opened {
     }
 
     /// Returns what commands write over the run, as `answers_page` does.
-    pub fn answers(&mut self, alloc: Global, commands: &[u8]) -> Result<Vec<u8>, SessionFault>
+    pub fn answers(&mut self, alloc: Global, commands: &[u8]) -> Result<Vec<u8>, StreamFault>
         ensures text { IfOk result (λ text. text.items ≡ answers_of self.old commands.now) }
         ensures limit { OnOk result (IsWithin MOST_BYTES (answers_of self.old) commands.now) }
         ensures run { self.new ≡ self.old }

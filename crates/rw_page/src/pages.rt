@@ -5,8 +5,9 @@ ghost use Rattle.rw_console.specs.SessionReport.{report};
 ghost use Rattle.rw_page.specs.Pages.{Holds, IsWithin, Lacks, page_of};
 ghost use Rattle.rw_text.specs.Faults.{text_fault_line};
 
-use rw_console::{MOST_BYTES, SessionFault, debug, session};
+use rw_console::{MOST_BYTES, debug, session};
 use rw_law::NoMemory;
+use rw_lines::StreamFault;
 use rw_text::TextFault;
 use std::alloc::Global;
 
@@ -20,18 +21,18 @@ pub fn fault_page(alloc: Global, fault: TextFault) -> Result<Vec<u8>, NoMemory>
 
 /// Returns what the commands write over the run of a journal text, or that text's first fault. Only if more than `MOST_BYTES` bytes
 /// of commands would have to be read, it returns `TooMuch`.
-pub fn debug_page(alloc: Global, journal: &[u8], commands: &[u8]) -> Result<Vec<u8>, SessionFault>
+pub fn debug_page(alloc: Global, journal: &[u8], commands: &[u8]) -> Result<Vec<u8>, StreamFault>
     ensures text { IfOk result (λ text. text.items ≡ page_of journal.now commands.now) }
     ensures limit { OnOk result (IsWithin MOST_BYTES (page_of journal.now) commands.now) }
-    ensures above { IsErrOf result SessionFault.TooMuch → MOST_BYTES < length commands.now }
+    ensures above { IsErrOf result StreamFault.TooMuch → MOST_BYTES < length commands.now }
 {
     let run = match rw_text::read(alloc, journal) {
         Ok(run) => run,
-        Err(TextFault::NoMemory) => return Err(SessionFault::NoMemory),
+        Err(TextFault::NoMemory) => return Err(StreamFault::NoMemory),
         Err(fault) => {
             return match fault_page(alloc, fault) {
                 Ok(line) => Ok(line),
-                Err(NoMemory) => Err(SessionFault::NoMemory),
+                Err(NoMemory) => Err(StreamFault::NoMemory),
             };
         }
     };
@@ -42,10 +43,10 @@ pub fn debug_page(alloc: Global, journal: &[u8], commands: &[u8]) -> Result<Vec<
 }
 
 /// Returns what a session writes. Only if more than `MOST_BYTES` bytes would have to be read, it returns `TooMuch`.
-pub fn session_page(alloc: Global, bytes: &[u8]) -> Result<Vec<u8>, SessionFault>
+pub fn session_page(alloc: Global, bytes: &[u8]) -> Result<Vec<u8>, StreamFault>
     ensures text { IfOk result (λ text. text.items ≡ report bytes.now) }
     ensures limit { OnOk result (IsWithin MOST_BYTES report bytes.now) }
-    ensures above { IsErrOf result SessionFault.TooMuch → MOST_BYTES < length bytes.now }
+    ensures above { IsErrOf result StreamFault.TooMuch → MOST_BYTES < length bytes.now }
 {
     let mut text = Vec::new(alloc);
     let mut input = bytes;

@@ -7,8 +7,8 @@ ghost use Rattle.rw_program.specs.Statuses.{Says, error_line_of, error_line_of_t
 use crate::statuses::{
     NO_RUN, REFUSED_WORDS, error_line, error_line_of_threads, error_line_of_unread, status,
 };
-use rw_console::{Outcome, SessionFault};
-use rw_lines::{ShortWrite, put};
+use rw_console::Outcome;
+use rw_lines::{ShortWrite, StreamFault, put};
 use rw_script::RunFault;
 use std::io::Write;
 
@@ -45,7 +45,7 @@ impl Ended {
     ghost use Rattle.rw_program.specs.Lines.{line_of};
 
     /// Returns the end of a session or of commands over a run, given their result.
-    pub fn of(ended: Result<Outcome, SessionFault>) -> Ended
+    pub fn of(ended: Result<Outcome, StreamFault>) -> Ended
         ensures line { line_of result ≡ error_line_of ended }
         ensures status { result.status ≡ status_of ended }
     {

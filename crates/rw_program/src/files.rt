@@ -17,9 +17,9 @@ use crate::reading::{Refusal, read_run, read_salvage, read_script};
 use crate::statuses::{REFUSED_INPUT, WOULD_WAIT};
 use crate::threads::record_by;
 use crate::words::Verb;
-use rw_console::{Outcome, SessionFault, debug, fault_line, waiting_line};
+use rw_console::{Outcome, debug, fault_line, waiting_line};
 use rw_journal::Run;
-use rw_lines::{flush, put_whole};
+use rw_lines::{StreamFault, flush, put_whole};
 use rw_script::run_one;
 use std::alloc::Global;
 use std::io::{Read, Write};
@@ -47,11 +47,11 @@ fn tell(alloc: Global, why: Refusal) -> Ended
         Refusal::Stream(fault) => Ended::of(Err(fault)),
         Refusal::Script(fault) => match fault_line(alloc, fault) {
             Ok(line) => Ended::told_by(line, REFUSED_INPUT),
-            Err(_) => Ended::of(Err(SessionFault::NoMemory)),
+            Err(_) => Ended::of(Err(StreamFault::NoMemory)),
         },
         Refusal::Text(fault) => match fault.line(alloc) {
             Ok(line) => Ended::told_by(line, REFUSED_INPUT),
-            Err(_) => Ended::of(Err(SessionFault::NoMemory)),
+            Err(_) => Ended::of(Err(StreamFault::NoMemory)),
         },
     }
 }
@@ -64,7 +64,7 @@ pub(crate) fn refuse<W: Write>(alloc: Global, out: &mut W, why: Refusal) -> Ende
         Refusal::Stream(_) | Refusal::Script(_) => tell(alloc, why),
         Refusal::Text(fault) => match fault.line(alloc) {
             Ok(line) => end_with(out, line.as_str(), REFUSED_INPUT),
-            Err(_) => Ended::of(Err(SessionFault::NoMemory)),
+            Err(_) => Ended::of(Err(StreamFault::NoMemory)),
         },
     }
 }
@@ -78,19 +78,19 @@ fn say_waiting(alloc: Global, waits: Option<u64>) -> Ended
     };
     match waiting_line(alloc, number) {
         Ok(line) => Ended::told_by(line, WOULD_WAIT),
-        Err(_) => Ended::of(Err(SessionFault::NoMemory)),
+        Err(_) => Ended::of(Err(StreamFault::NoMemory)),
     }
 }
 
 /// Writes a run's journal text, and flushes. On an error the writer failed, after a prefix of the text was written.
-pub(crate) fn write_journal<W: Write>(run: &Run<u64>, out: &mut W) -> Result<(), SessionFault>
+pub(crate) fn write_journal<W: Write>(run: &Run<u64>, out: &mut W) -> Result<(), StreamFault>
     ensures ok { OnOk result (Appends (W.contents out.old) (W.contents out.new) (text numbers run.now)) }
-    ensures fault { IfErr result (λ fault. fault ≡ SessionFault.Write) }
+    ensures fault { IfErr result (λ fault. fault ≡ StreamFault.Write) }
     ensures prefix { IfErr result (λ _. WritesPrefix (W.contents out.old) (W.contents out.new) (text numbers run.now)) }
 {
     match rw_text::write(run, out) {
         Ok(_) => flush(out),
-        Err(_) => Err(SessionFault::Write),
+        Err(_) => Err(StreamFault::Write),
     }
 }
 
@@ -105,7 +105,7 @@ pub(crate) fn record<F: Read, W: Write>(alloc: Global, file: &mut F, out: &mut W
     let ran = run_one(alloc, &script);
     drop(script);
     let Ok((run, waits)) = ran else {
-        return Ended::of(Err(SessionFault::NoMemory));
+        return Ended::of(Err(StreamFault::NoMemory));
     };
     let written = write_journal(&run, out);
     drop(run);
@@ -127,7 +127,7 @@ fn check<F: Read, W: Write>(alloc: Global, file: &mut F, out: &mut W) -> Ended
     drop(run);
     match format!(in alloc; "ok {count}\n") {
         Ok(line) => end_with(out, line.as_str(), 0),
-        Err(_) => Ended::of(Err(SessionFault::NoMemory)),
+        Err(_) => Ended::of(Err(StreamFault::NoMemory)),
     }
 }
 
@@ -137,7 +137,7 @@ fn say_kept(alloc: Global, count: u64) -> Ended
 {
     match format!(in alloc; "kept {count} bytes\n") {
         Ok(line) => Ended::told_by(line, 0),
-        Err(_) => Ended::of(Err(SessionFault::NoMemory)),
+        Err(_) => Ended::of(Err(StreamFault::NoMemory)),
     }
 }
 

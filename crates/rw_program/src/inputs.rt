@@ -4,7 +4,8 @@ ghost use Rattle.std.specs.Prelude.{◌≤◌, length, IfOk, IfErr};
 ghost use Rattle.std.specs.Io.KnownBytes.{Consumes, IsAtEnd};
 ghost use Rattle.rw_program.specs.Files.{StopsReading};
 
-use rw_console::{MOST_BYTES, SessionFault};
+use rw_console::MOST_BYTES;
+use rw_lines::StreamFault;
 use std::alloc::Global;
 use std::io::Read;
 
@@ -12,7 +13,7 @@ use std::io::Read;
 const PIECE: usize = 65_536;
 
 /// Reads all bytes of a reader. More than 268,435,456 are an error.
-pub fn read_whole<R: Read>(alloc: Global, reader: &mut R) -> Result<Vec<u8>, SessionFault>
+pub fn read_whole<R: Read>(alloc: Global, reader: &mut R) -> Result<Vec<u8>, StreamFault>
     ensures read { IfOk result (λ bytes. Consumes (R.remaining reader.old) (R.remaining reader.new) bytes.items) }
     ensures few { IfOk result (λ bytes. length bytes.items ≤ MOST_BYTES) }
     ensures whole { IfOk result (λ bytes. IsAtEnd (R.remaining reader.new)) }
@@ -22,16 +23,16 @@ pub fn read_whole<R: Read>(alloc: Global, reader: &mut R) -> Result<Vec<u8>, Ses
     let mut piece = [0u8; PIECE];
     'each_piece: loop {
         let Ok(taken) = reader.read(&mut piece) else {
-            return Err(SessionFault::Read);
+            return Err(StreamFault::Read);
         };
         if taken == 0 {
             return Ok(bytes);
         }
         if bytes.len() as u64 + taken as u64 > MOST_BYTES {
-            return Err(SessionFault::TooMuch);
+            return Err(StreamFault::TooMuch);
         }
         if bytes.extend_from_slice(&piece[..taken]).is_err() {
-            return Err(SessionFault::NoMemory);
+            return Err(StreamFault::NoMemory);
         }
     }
 }

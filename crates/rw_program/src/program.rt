@@ -18,7 +18,8 @@ use crate::endings::Ended;
 use crate::files::over_file;
 use crate::threads::record_threads;
 use crate::words::{Asked, Verb, read_words, refuse_words};
-use rw_console::{SessionFault, session};
+use rw_console::session;
+use rw_lines::StreamFault;
 use std::alloc::Global;
 use std::fs;
 use std::io::{self, BufReader, BufWriter, ErrorKind, Read, Write};
@@ -28,14 +29,6 @@ use std::thread::Threads;
 
 /// How many bytes of output are buffered.
 const OUTPUT_BUFFER: usize = 65_536;
-
-/// Runs a session on these streams.
-pub fn run_session<R: Read, W: Write>(alloc: Global, input: &mut R, out: &mut W) -> Ended
-    ensures { Runs report outcome HasMark (R.remaining input.old) (R.remaining input.new) (W.contents out.old) (W.contents out.new)
-        (line_of result) result.status }
-{
-    Ended::of(session(alloc, input, out))
-}
 
 /// Runs a session on these streams, reports its end on `err`, and returns the exit status.
 pub fn session_on<R: Read, W: Write, E: Write>(
@@ -48,7 +41,7 @@ pub fn session_on<R: Read, W: Write, E: Write>(
     ensures runs { (line : List ℕ) × Says (E.contents err.old) (E.contents err.new) line
         × Runs report outcome HasMark (R.remaining input.old) (R.remaining input.new) (W.contents out.old) (W.contents out.new) line result }
 {
-    let ended = run_session(alloc, input, out);
+    let ended = Ended::of(session(alloc, input, out));
     ended.finish(err)
 }
 
@@ -61,14 +54,14 @@ pub fn over_opened<F: Read + Drop, R: Read, W: Write>(
     out: &mut W,
 ) -> Ended
     ensures unopened { IfErr file (λ _. Keeps (R.remaining input.old) (R.remaining input.new)
-        × TellsOnly (W.contents out.old) (W.contents out.new) (line_of result) result.status SessionFault.Read) }
+        × TellsOnly (W.contents out.old) (W.contents out.new) (line_of result) result.status StreamFault.Read) }
     ensures done { IfOk file (λ f. (rest : Option (List ℕ))
         × DoneBy verb (F.remaining f) rest (R.remaining input.old) (R.remaining input.new)
         (W.contents out.old) (W.contents out.new) (line_of result) result.status) }
 {
     match file {
         Ok(mut file) => over_file(alloc, verb, &mut file, input, out),
-        Err(_) => Ended::of(Err(SessionFault::Read)),
+        Err(_) => Ended::of(Err(StreamFault::Read)),
     }
 }
 
@@ -79,13 +72,13 @@ pub fn threads_over_opened<F: Read + Drop, W: Write, R: Threads + Wait + Sync>(
     file: io::Result<F>,
     out: &mut W,
 ) -> Ended
-    ensures unopened { IfErr file (λ _. TellsOnly (W.contents out.old) (W.contents out.new) (line_of result) result.status SessionFault.Read) }
+    ensures unopened { IfErr file (λ _. TellsOnly (W.contents out.old) (W.contents out.new) (line_of result) result.status StreamFault.Read) }
     ensures played { IfOk file (λ f. (rest : Option (List ℕ))
         × RecordsThreads (F.remaining f) rest (W.contents out.old) (W.contents out.new) (line_of result) result.status) }
 {
     match file {
         Ok(mut file) => record_threads(rt, alloc, &mut file, out),
-        Err(_) => Ended::of(Err(SessionFault::Read)),
+        Err(_) => Ended::of(Err(StreamFault::Read)),
     }
 }
 
@@ -109,13 +102,13 @@ fn answer<R: Files + Input + Print + AllocGlobal + Threads + Wait + Sync>(
     let alloc = rt.alloc();
     // A session flushes once per command, and a long list is written in large pieces.
     let Ok(mut out) = BufWriter::with_capacity(alloc, OUTPUT_BUFFER, io::writer(rt)) else {
-        return Ended::of(Err(SessionFault::NoMemory));
+        return Ended::of(Err(StreamFault::NoMemory));
     };
     let Ok(mut input) = BufReader::new(alloc, rt.reader()) else {
-        return Ended::of(Err(SessionFault::NoMemory));
+        return Ended::of(Err(StreamFault::NoMemory));
     };
     match asked {
-        Asked::Session => run_session(alloc, &mut input, &mut out),
+        Asked::Session => Ended::of(session(alloc, &mut input, &mut out)),
         Asked::Over(verb, path) => {
             let file = open_for(rt, verb, path);
             over_opened(alloc, verb, file, &mut input, &mut out)
@@ -126,11 +119,11 @@ fn answer<R: Files + Input + Print + AllocGlobal + Threads + Wait + Sync>(
 
 /// Returns the end if the words can't be read: one isn't UTF-8, which its line says, or memory ran out.
 fn unread_words(error: &io::Error) -> Ended
-    ensures memory { error_kind error.now ≡ ErrorKind.OutOfMemory → Tells (line_of result) result.status (Err SessionFault.NoMemory) }
+    ensures memory { error_kind error.now ≡ ErrorKind.OutOfMemory → Tells (line_of result) result.status (Err StreamFault.NoMemory) }
     ensures words { error_kind error.now ≢ ErrorKind.OutOfMemory → (line_of result ≡ error_line_of_unread) × (result.status ≡ 2) }
 {
     match error.kind() {
-        ErrorKind::OutOfMemory => Ended::of(Err(SessionFault::NoMemory)),
+        ErrorKind::OutOfMemory => Ended::of(Err(StreamFault::NoMemory)),
         _ => Ended::of_unread_words(),
     }
 }
@@ -138,12 +131,12 @@ fn unread_words(error: &io::Error) -> Ended
 /// Returns the words of the command line.
 fn words_of<R: Env + AllocGlobal>(rt: &R) -> Result<Vec<String>, Ended>
     ensures { IfErr result (λ ended. ((line_of ended ≡ error_line_of_unread) × (ended.status ≡ 2))
-        ⊎ Tells (line_of ended) ended.status (Err SessionFault.NoMemory)) }
+        ⊎ Tells (line_of ended) ended.status (Err StreamFault.NoMemory)) }
 {
     match std::env::args(rt) {
         Ok(args) => args
             .collect(rt.alloc())
-            .map_err(|_| Ended::of(Err(SessionFault::NoMemory))),
+            .map_err(|_| Ended::of(Err(StreamFault::NoMemory))),
         Err(error) => Err(unread_words(&error)),
     }
 }
@@ -161,18 +154,6 @@ pub fn perform<R: Files + Input + Print + AllocGlobal + Threads + Wait + Sync>(
     }
 }
 
-/// Reads the command line, and runs its command.
-fn perform_all<R: Env + Files + Input + Print + AllocGlobal + Threads + Wait + Sync>(
-    rt: &R,
-) -> Ended
-    ensures { IsEnd (line_of result) result.status }
-{
-    match words_of(rt) {
-        Ok(words) => perform(rt, words.as_slice()),
-        Err(ended) => ended,
-    }
-}
-
 /// Runs the program on the real words, files and streams, and returns its exit status.
 pub fn run<R: Env + Files + Input + Print + AllocGlobal + Threads + Wait + Sync, E: Write>(
     rt: &R,
@@ -181,6 +162,8 @@ pub fn run<R: Env + Files + Input + Print + AllocGlobal + Threads + Wait + Sync,
     ensures known { result ≤ 5 }
     ensures ends { (line : List ℕ) × Says (E.contents err.old) (E.contents err.new) line × IsEnd line result }
 {
-    let ended = perform_all(rt);
-    ended.finish(err)
+    match words_of(rt) {
+        Ok(words) => perform(rt, words.as_slice()).finish(err),
+        Err(ended) => ended.finish(err),
+    }
 }

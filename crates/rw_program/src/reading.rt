@@ -9,8 +9,8 @@ ghost use Rattle.rw_text.specs.Salvaging.{salvage_of};
 ghost use Rattle.rw_program.specs.Contents.{HasNoScript, HasNoText, HasScript, HasText, IsNoScript, IsNoText};
 
 use crate::inputs::read_whole;
-use rw_console::SessionFault;
 use rw_journal::Run;
+use rw_lines::StreamFault;
 use rw_script::{Script, ScriptFault, ScriptFaultKind};
 use rw_text::TextFault;
 use std::alloc::Global;
@@ -20,7 +20,7 @@ use std::io::Read;
 #[derive(Clone, Copy)]
 pub enum Refusal {
     /// It can't be read whole, or memory ran out.
-    Stream(SessionFault),
+    Stream(StreamFault),
     /// It isn't a script.
     Script(ScriptFault),
     /// It isn't a run's journal text.
@@ -35,7 +35,7 @@ fn script_of(alloc: Global, bytes: &[u8]) -> Result<Script, Refusal>
     match Script::read(alloc, bytes) {
         Ok(script) => Ok(script),
         Err(fault) => match fault.kind {
-            ScriptFaultKind::NoMemory => Err(Refusal::Stream(SessionFault::NoMemory)),
+            ScriptFaultKind::NoMemory => Err(Refusal::Stream(StreamFault::NoMemory)),
             _ => Err(Refusal::Script(fault)),
         },
     }
@@ -48,7 +48,7 @@ fn run_of(alloc: Global, bytes: &[u8]) -> Result<Run<u64>, Refusal>
 {
     match rw_text::read(alloc, bytes) {
         Ok(run) => Ok(run),
-        Err(TextFault::NoMemory) => Err(Refusal::Stream(SessionFault::NoMemory)),
+        Err(TextFault::NoMemory) => Err(Refusal::Stream(StreamFault::NoMemory)),
         Err(fault) => Err(Refusal::Text(fault)),
     }
 }
@@ -60,7 +60,7 @@ fn salvage_of(alloc: Global, bytes: &[u8]) -> Result<(Run<u64>, u64), Refusal>
 {
     match rw_text::salvage(alloc, bytes) {
         Ok(salvaged) => Ok(salvaged),
-        Err(TextFault::NoMemory) => Err(Refusal::Stream(SessionFault::NoMemory)),
+        Err(TextFault::NoMemory) => Err(Refusal::Stream(StreamFault::NoMemory)),
         Err(fault) => Err(Refusal::Text(fault)),
     }
 }

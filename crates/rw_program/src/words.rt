@@ -10,7 +10,7 @@ use crate::endings::Ended;
 use crate::flags::{DASHES, THREADS, is_flag};
 use crate::statuses::REFUSED_WORDS;
 use crate::word_faults::{WordsFault, fault_in, fault_without_command};
-use rw_console::SessionFault;
+use rw_lines::StreamFault;
 use std::alloc::Global;
 
 /// What to do with a file.
@@ -187,6 +187,6 @@ pub fn refuse_words(alloc: Global, fault: &WordsFault<'_>) -> Ended
 {
     match fault.text(alloc) {
         Ok(text) => Ended::told_by(text, REFUSED_WORDS),
-        Err(_) => Ended::of(Err(SessionFault::NoMemory)),
+        Err(_) => Ended::of(Err(StreamFault::NoMemory)),
     }
 }

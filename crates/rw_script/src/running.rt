@@ -73,8 +73,8 @@ fn run_step<M: Reversible<Call = RowCall<ChanCall<u64>>, Reply = ChanReply<u64>>
 pub(crate) fn push_handle(made: &mut Vec<u32>, binds: bool, handle: u32) -> Result<(), NoMemory>
     ensures { OnOk result (made.new.items ≡ (if binds then made.old.items ++ handle ∷ [] else made.old.items)) }
 {
-    if binds && made.push(handle).is_err() {
-        return Err(NoMemory);
+    if binds {
+        made.push(handle)?;
     }
     Ok(())
 }

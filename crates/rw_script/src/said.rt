@@ -151,7 +151,7 @@ pub(crate) fn read_said<'a>(
     ensures kind { IfOk result (λ said. strays_at kind said.call ≡ false) }
 {
     let Some(rest) = rest else {
-        return said_by(None, None, read_call(kind.is_broadcast(), word)?);
+        return said_by(None, None, read_call(kind, word)?);
     };
     let (handle, more) = first_word(rest);
     let call = read_split_call(kind, word, handle_text(handle), without_binding(more))?;

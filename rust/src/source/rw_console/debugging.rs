@@ -7,9 +7,10 @@
 //~ ghost use Rattle.rw_console.specs.Streams.{Always, Answers, Stops};
 
 use crate::source::rw_console::console::commands;
-use crate::source::rw_console::sessions::{MOST_BYTES, SessionFault};
+use crate::source::rw_console::sessions::MOST_BYTES;
 use crate::source::rw_console::walk::Walk;
 use crate::source::rw_journal::Run;
+use crate::source::rw_lines::StreamFault;
 use crate::source::rw_navigator::Move;
 use crate::shim::alloc::Global;
 use crate::shim::io::{Read, Write};
@@ -21,14 +22,14 @@ pub fn debug<R: Read, W: Write>(
     run: &Run<u64>,
     reader: &mut R,
     writer: &mut W,
-) -> Result<(), SessionFault>
+) -> Result<(), StreamFault>
 //~     ensures ok { OnOk result (Answers (R.remaining reader.old) (R.remaining reader.new) (W.contents writer.old) (W.contents writer.new)
 //~         (commands_report run.now (last_place run.now)) MOST_BYTES) }
 //~     ensures err { IfErr result (Stops (R.remaining reader.old) (R.remaining reader.new) (W.contents writer.old) (W.contents writer.new)
 //~         (commands_report run.now (last_place run.now)) Always MOST_BYTES) }
 {
     let Ok(mut walk) = Walk::open(alloc, run) else {
-        return Err(SessionFault::NoMemory);
+        return Err(StreamFault::NoMemory);
     };
     let answered = debug_again(alloc, &mut walk, reader, writer);
     drop(walk);
@@ -41,7 +42,7 @@ pub fn debug_again<R: Read, W: Write>(
     walk: &mut Walk,
     reader: &mut R,
     writer: &mut W,
-) -> Result<(), SessionFault>
+) -> Result<(), StreamFault>
 //~     ensures ok { OnOk result (Answers (R.remaining reader.old) (R.remaining reader.new) (W.contents writer.old) (W.contents writer.new)
 //~         (commands_report walk.old.run (last_place walk.old.run)) MOST_BYTES) }
 //~     ensures err { IfErr result (Stops (R.remaining reader.old) (R.remaining reader.new) (W.contents writer.old) (W.contents writer.new)

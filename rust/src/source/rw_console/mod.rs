@@ -23,5 +23,5 @@ mod walk;
 
 pub use debugging::{debug, debug_again};
 pub use session_lines::{fault_line, waiting_line};
-pub use sessions::{MOST_BYTES, Outcome, SessionFault, session};
+pub use sessions::{MOST_BYTES, Outcome, session};
 pub use walk::{PausedWalk, Walk};

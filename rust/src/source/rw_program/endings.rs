@@ -9,8 +9,8 @@ use crate::shim::String; //+
 use crate::source::rw_program::statuses::{
     NO_RUN, REFUSED_WORDS, error_line, error_line_of_threads, error_line_of_unread, status,
 };
-use crate::source::rw_console::{Outcome, SessionFault};
-use crate::source::rw_lines::{ShortWrite, put};
+use crate::source::rw_console::Outcome;
+use crate::source::rw_lines::{ShortWrite, StreamFault, put};
 use crate::source::rw_script::RunFault;
 use crate::shim::io::Write;
 
@@ -47,7 +47,7 @@ impl Ended {
 //~     ghost use Rattle.rw_program.specs.Lines.{line_of};
 
     /// Returns the end of a session or of commands over a run, given their result.
-    pub fn of(ended: Result<Outcome, SessionFault>) -> Ended
+    pub fn of(ended: Result<Outcome, StreamFault>) -> Ended
 //~         ensures line { line_of result ≡ error_line_of ended }
 //~         ensures status { result.status ≡ status_of ended }
     {

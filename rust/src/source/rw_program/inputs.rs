@@ -6,7 +6,8 @@ use crate::shim::Vec; //+
 //~ ghost use Rattle.std.specs.Io.KnownBytes.{Consumes, IsAtEnd};
 //~ ghost use Rattle.rw_program.specs.Files.{StopsReading};
 
-use crate::source::rw_console::{MOST_BYTES, SessionFault};
+use crate::source::rw_console::MOST_BYTES;
+use crate::source::rw_lines::StreamFault;
 use crate::shim::alloc::Global;
 use crate::shim::io::Read;
 
@@ -14,7 +15,7 @@ use crate::shim::io::Read;
 const PIECE: usize = 65_536;
 
 /// Reads all bytes of a reader. More than 268,435,456 are an error.
-pub fn read_whole<R: Read>(alloc: Global, reader: &mut R) -> Result<Vec<u8>, SessionFault>
+pub fn read_whole<R: Read>(alloc: Global, reader: &mut R) -> Result<Vec<u8>, StreamFault>
 //~     ensures read { IfOk result (λ bytes. Consumes (R.remaining reader.old) (R.remaining reader.new) bytes.items) }
 //~     ensures few { IfOk result (λ bytes. length bytes.items ≤ MOST_BYTES) }
 //~     ensures whole { IfOk result (λ bytes. IsAtEnd (R.remaining reader.new)) }
@@ -24,16 +25,16 @@ pub fn read_whole<R: Read>(alloc: Global, reader: &mut R) -> Result<Vec<u8>, Ses
     let mut piece = [0u8; PIECE];
     'each_piece: loop {
         let Ok(taken) = reader.read(&mut piece) else {
-            return Err(SessionFault::Read);
+            return Err(StreamFault::Read);
         };
         if taken == 0 {
             return Ok(bytes);
         }
         if bytes.len() as u64 + taken as u64 > MOST_BYTES {
-            return Err(SessionFault::TooMuch);
+            return Err(StreamFault::TooMuch);
         }
         if bytes.extend_from_slice(&piece[..taken]).is_err() {
-            return Err(SessionFault::NoMemory);
+            return Err(StreamFault::NoMemory);
         }
     }
 }

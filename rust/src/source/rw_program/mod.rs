@@ -27,7 +27,7 @@ mod words;
 pub use endings::Ended;
 pub use files::{check_file, debug_file, over_file, record_file, salvage_file};
 pub use inputs::read_whole;
-pub use program::{over_opened, perform, run, run_session, session_on, threads_over_opened};
+pub use program::{over_opened, perform, run, session_on, threads_over_opened};
 pub use statuses::{error_line, status};
 pub use word_faults::{Topic, WordsFault};
 pub use words::{Asked, Command, Verb, read_words, refuse_words};

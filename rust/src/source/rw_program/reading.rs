@@ -10,8 +10,8 @@
 //~ ghost use Rattle.rw_program.specs.Contents.{HasNoScript, HasNoText, HasScript, HasText, IsNoScript, IsNoText};
 
 use crate::source::rw_program::inputs::read_whole;
-use crate::source::rw_console::SessionFault;
 use crate::source::rw_journal::Run;
+use crate::source::rw_lines::StreamFault;
 use crate::source::rw_script::{Script, ScriptFault, ScriptFaultKind};
 use crate::source::rw_text::TextFault;
 use crate::shim::alloc::Global;
@@ -21,7 +21,7 @@ use crate::shim::io::Read;
 #[derive(Clone, Copy)]
 pub enum Refusal {
     /// It can't be read whole, or memory ran out.
-    Stream(SessionFault),
+    Stream(StreamFault),
     /// It isn't a script.
     Script(ScriptFault),
     /// It isn't a run's journal text.
@@ -36,7 +36,7 @@ fn script_of(alloc: Global, bytes: &[u8]) -> Result<Script, Refusal>
     match Script::read(alloc, bytes) {
         Ok(script) => Ok(script),
         Err(fault) => match fault.kind {
-            ScriptFaultKind::NoMemory => Err(Refusal::Stream(SessionFault::NoMemory)),
+            ScriptFaultKind::NoMemory => Err(Refusal::Stream(StreamFault::NoMemory)),
             _ => Err(Refusal::Script(fault)),
         },
     }
@@ -49,7 +49,7 @@ fn run_of(alloc: Global, bytes: &[u8]) -> Result<Run<u64>, Refusal>
 {
     match crate::source::rw_text::read(alloc, bytes) {
         Ok(run) => Ok(run),
-        Err(TextFault::NoMemory) => Err(Refusal::Stream(SessionFault::NoMemory)),
+        Err(TextFault::NoMemory) => Err(Refusal::Stream(StreamFault::NoMemory)),
         Err(fault) => Err(Refusal::Text(fault)),
     }
 }
@@ -61,7 +61,7 @@ fn salvage_of(alloc: Global, bytes: &[u8]) -> Result<(Run<u64>, u64), Refusal>
 {
     match crate::source::rw_text::salvage(alloc, bytes) {
         Ok(salvaged) => Ok(salvaged),
-        Err(TextFault::NoMemory) => Err(Refusal::Stream(SessionFault::NoMemory)),
+        Err(TextFault::NoMemory) => Err(Refusal::Stream(StreamFault::NoMemory)),
         Err(fault) => Err(Refusal::Text(fault)),
     }
 }

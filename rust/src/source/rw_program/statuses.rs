@@ -4,7 +4,8 @@
 //~ ghost use Rattle.std.specs.Prelude.{◌≡◌, ◌≤◌};
 //~ ghost use Rattle.rw_program.specs.Statuses.{error_line_of, error_line_of_threads, error_line_of_unread, status_of};
 
-use crate::source::rw_console::{Outcome, SessionFault};
+use crate::source::rw_console::Outcome;
+use crate::source::rw_lines::StreamFault;
 use crate::source::rw_script::RunFault;
 
 /// The input was refused.
@@ -23,7 +24,7 @@ pub const STREAM_FAULT: u8 = 4;
 pub const NO_RUN: u8 = 5;
 
 /// Returns the exit status of a session with this result.
-pub fn status(ended: Result<Outcome, SessionFault>) -> u8
+pub fn status(ended: Result<Outcome, StreamFault>) -> u8
 //~     ensures status { result ≡ status_of ended }
 //~     ensures known { result ≤ 5 }
 {
@@ -31,20 +32,20 @@ pub fn status(ended: Result<Outcome, SessionFault>) -> u8
         Ok(Outcome::Done) => 0,
         Ok(Outcome::Refused(_)) => REFUSED_INPUT,
         Ok(Outcome::Waited(_)) => WOULD_WAIT,
-        Err(SessionFault::Read | SessionFault::Write | SessionFault::TooMuch) => STREAM_FAULT,
-        Err(SessionFault::NoMemory) => NO_RUN,
+        Err(StreamFault::Read | StreamFault::Write | StreamFault::TooMuch) => STREAM_FAULT,
+        Err(StreamFault::NoMemory) => NO_RUN,
     }
 }
 
 /// Returns the line for standard error. A session that reached its end has none there, whatever its script.
-pub fn error_line(ended: Result<Outcome, SessionFault>) -> &'static str
+pub fn error_line(ended: Result<Outcome, StreamFault>) -> &'static str
 //~     ensures { result.now ≡ error_line_of ended }
 {
     match ended {
         Ok(_) => "",
-        Err(SessionFault::Read | SessionFault::TooMuch) => "read fault\n",
-        Err(SessionFault::Write) => "write fault\n",
-        Err(SessionFault::NoMemory) => "no memory\n",
+        Err(StreamFault::Read | StreamFault::TooMuch) => "read fault\n",
+        Err(StreamFault::Write) => "write fault\n",
+        Err(StreamFault::NoMemory) => "no memory\n",
     }
 }
 

@@ -12,7 +12,7 @@ use crate::source::rw_program::endings::Ended;
 use crate::source::rw_program::flags::{DASHES, THREADS, is_flag};
 use crate::source::rw_program::statuses::REFUSED_WORDS;
 use crate::source::rw_program::word_faults::{WordsFault, fault_in, fault_without_command};
-use crate::source::rw_console::SessionFault;
+use crate::source::rw_lines::StreamFault;
 use crate::shim::alloc::Global;
 
 /// What to do with a file.
@@ -189,6 +189,6 @@ pub fn refuse_words(alloc: Global, fault: &WordsFault<'_>) -> Ended
 {
     match fault.text(alloc) {
         Ok(text) => Ended::told_by(text, REFUSED_WORDS),
-        Err(_) => Ended::of(Err(SessionFault::NoMemory)),
+        Err(_) => Ended::of(Err(StreamFault::NoMemory)),
     }
 }

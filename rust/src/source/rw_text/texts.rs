@@ -14,15 +14,6 @@ use crate::source::rw_journal::Run;
 use crate::source::rw_law::Payload;
 use crate::shim::alloc::Global;
 
-fn read_lines<V: Payload>(alloc: Global, bytes: &[u8]) -> Result<Run<V>, TextFault>
-//~     ensures exact { Finishes result (reading_of V.Payload bytes.now) }
-//~     ensures run { IfOk result (λ run. IsRun run.specs run.entries) }
-//~     ensures memory { IsErrOf result TextFault.NoMemory → AsksMemory V.Payload bytes.now }
-{
-    let (reader, _) = read_whole_lines(alloc, bytes)?;
-    reader.whole_run()
-}
-
 /// Returns the run whose text the bytes are, in either version, or their first fault. The text that `write` writes for a run is
 /// read as that run.
 pub fn read<V: Payload>(alloc: Global, bytes: &[u8]) -> Result<Run<V>, TextFault>
@@ -38,5 +29,6 @@ pub fn read<V: Payload>(alloc: Global, bytes: &[u8]) -> Result<Run<V>, TextFault
     // An allocation can only fail at a line that allocates, after the lines before it were accepted.
 //~     ensures memory { IsErrOf result TextFault.NoMemory → AsksMemory V.Payload bytes.now }
 {
-    read_lines(alloc, bytes)
+    let (reader, _) = read_whole_lines(alloc, bytes)?;
+    reader.whole_run()
 }

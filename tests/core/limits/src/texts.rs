@@ -1,7 +1,8 @@
 //! Scripts, journal texts and whole inputs.
 
 use crate::recorded::run_of;
-use proved::rw_console::{Outcome, SessionFault, debug, session};
+use proved::rw_console::{Outcome, debug, session};
+use proved::rw_lines::StreamFault;
 use proved::rw_program::read_whole;
 use proved::rw_script::{Script, ScriptFaultKind, run_one};
 use proved::rw_text::{TextFault, read, salvage, write};
@@ -62,7 +63,7 @@ pub fn bytes(size: u64) -> bool {
     match read_whole(Global, &mut io::repeat(b'x').take(size)) {
         Ok(whole) => whole.len() as u64 == size,
         Err(fault) => {
-            assert_eq!(fault, SessionFault::TooMuch);
+            assert_eq!(fault, StreamFault::TooMuch);
             false
         }
     }
@@ -141,7 +142,7 @@ pub fn session_bytes(size: u64) -> bool {
     match session(Global, &mut io::repeat(b'\n').take(size), &mut output) {
         Ok(Outcome::Refused(fault)) => fault.kind == ScriptFaultKind::NoChannels,
         ended => {
-            assert_eq!(ended, Err(SessionFault::TooMuch));
+            assert_eq!(ended, Err(StreamFault::TooMuch));
             false
         }
     }
@@ -154,7 +155,7 @@ pub fn debug_bytes(size: u64) -> bool {
     match debug(Global, &run, &mut io::repeat(b'x').take(size), &mut output) {
         Ok(()) => output.as_slice().ends_with(b"bad command\n"),
         ended => {
-            assert_eq!(ended, Err(SessionFault::TooMuch));
+            assert_eq!(ended, Err(StreamFault::TooMuch));
             false
         }
     }

@@ -3,8 +3,9 @@
 use crate::met::{append, refused, say};
 use crate::texts::{JOURNAL, read_text};
 use proved::Global;
-use proved::rw_console::{Outcome, SessionFault, debug, session};
+use proved::rw_console::{Outcome, debug, session};
 use proved::rw_journal::Run;
+use proved::rw_lines::StreamFault;
 use std::str::from_utf8;
 use support::devices::{FailingReader, FailingWriter};
 
@@ -55,12 +56,12 @@ lost
 const PIECE: usize = 4096;
 
 /// Whether memory was refused: to the session, or to the list that keeps what it writes.
-fn is_refused(fault: SessionFault) -> bool {
-    matches!(fault, SessionFault::NoMemory | SessionFault::Write)
+fn is_refused(fault: StreamFault) -> bool {
+    matches!(fault, StreamFault::NoMemory | StreamFault::Write)
 }
 
 /// What a session writes, and how it ends.
-fn session_once(input: &[u8]) -> (FailingWriter, Result<Outcome, SessionFault>) {
+fn session_once(input: &[u8]) -> (FailingWriter, Result<Outcome, StreamFault>) {
     let mut reader = FailingReader::new(input, PIECE, None);
     let mut writer = FailingWriter::new(PIECE, None);
     let ended = session(Global, &mut reader, &mut writer);
@@ -68,7 +69,7 @@ fn session_once(input: &[u8]) -> (FailingWriter, Result<Outcome, SessionFault>) 
 }
 
 /// The same, with retries. What was written before a refusal is a prefix of what is written the next time.
-fn ask_session(input: &[u8]) -> (FailingWriter, Result<Outcome, SessionFault>) {
+fn ask_session(input: &[u8]) -> (FailingWriter, Result<Outcome, StreamFault>) {
     let (front, ended) = session_once(input);
     let Err(fault) = ended else {
         return (front, ended);
@@ -80,7 +81,7 @@ fn ask_session(input: &[u8]) -> (FailingWriter, Result<Outcome, SessionFault>) {
 }
 
 /// What the commands write over a run.
-fn debug_once(run: &Run<u64>, input: &[u8]) -> (FailingWriter, Result<(), SessionFault>) {
+fn debug_once(run: &Run<u64>, input: &[u8]) -> (FailingWriter, Result<(), StreamFault>) {
     let mut reader = FailingReader::new(input, PIECE, None);
     let mut writer = FailingWriter::new(PIECE, None);
     let ended = debug(Global, run, &mut reader, &mut writer);
@@ -88,7 +89,7 @@ fn debug_once(run: &Run<u64>, input: &[u8]) -> (FailingWriter, Result<(), Sessio
 }
 
 /// The same, with retries. The run is unchanged.
-fn ask_debug(run: &Run<u64>, input: &[u8]) -> (FailingWriter, Result<(), SessionFault>) {
+fn ask_debug(run: &Run<u64>, input: &[u8]) -> (FailingWriter, Result<(), StreamFault>) {
     let length = run.len();
     let (front, ended) = debug_once(run, input);
     let Err(fault) = ended else {

@@ -4,6 +4,7 @@ use proved::rw_broadcast::{BCall, BReply};
 use proved::rw_law::{Entry, Payload, Reversible};
 use proved::rw_watch::{WCall, WReply};
 use proved::rw_words::{WordFault, read_call, read_reply, write_entry};
+use proved::rw_world::ChannelKind::{self, Broadcast, Watch};
 use proved::rw_world::{ChanCall, ChanPatch, ChanReply, RowCall, World};
 use std::fmt::Debug;
 
@@ -125,8 +126,8 @@ fn is_written<V: Payload>(entry: Entry<World<V>>, want: &[u8]) {
 }
 
 /// Asserts that the call is written as this text, and that the call read from the text is written so too.
-fn is_call<V: Payload>(broadcast: bool, text: &[u8], call: ChanCall<V>) {
-    let read = read_call(broadcast, text).unwrap();
+fn is_call<V: Payload>(kind: ChannelKind, text: &[u8], call: ChanCall<V>) {
+    let read = read_call(kind, text).unwrap();
     let line = [b"1 2 3 ".as_slice(), text, b" = done"].concat();
     let reply = ChanReply::W(WReply::Done);
     is_written(entry_of(call, reply), &line);
@@ -136,16 +137,16 @@ fn is_call<V: Payload>(broadcast: bool, text: &[u8], call: ChanCall<V>) {
 #[test]
 fn reads_and_writes_every_call() {
     for (text, call) in &BROADCAST_CALLS {
-        is_call(true, text, ChanCall::B(*call));
+        is_call(Broadcast, text, ChanCall::B(*call));
     }
     for (text, call) in &WATCH_CALLS {
-        is_call(false, text, ChanCall::W(*call));
+        is_call(Watch, text, ChanCall::W(*call));
     }
 }
 
 /// Asserts that this text is read as the reply, and that the reply is written as the text.
-fn is_reply<V: Payload + PartialEq + Debug>(broadcast: bool, text: &[u8], reply: ChanReply<V>) {
-    assert_eq!(read_reply(broadcast, text), Ok(reply));
+fn is_reply<V: Payload + PartialEq + Debug>(kind: ChannelKind, text: &[u8], reply: ChanReply<V>) {
+    assert_eq!(read_reply(kind, text), Ok(reply));
     let line = [b"1 2 3 recv 1 = ".as_slice(), text].concat();
     is_written(entry_of(ChanCall::B(BCall::Recv(1)), reply), &line);
 }
@@ -153,10 +154,10 @@ fn is_reply<V: Payload + PartialEq + Debug>(broadcast: bool, text: &[u8], reply:
 #[test]
 fn reads_and_writes_every_reply() {
     for (text, reply) in &BROADCAST_REPLIES {
-        is_reply(true, text, ChanReply::B(*reply));
+        is_reply(Broadcast, text, ChanReply::B(*reply));
     }
     for (text, reply) in &WATCH_REPLIES {
-        is_reply(false, text, ChanReply::W(*reply));
+        is_reply(Watch, text, ChanReply::W(*reply));
     }
 }
 
@@ -179,78 +180,78 @@ fn longest_line_has_123_bytes() {
 }
 
 /// Returns the fault of the words of a call.
-fn fault_of_call<V: Payload>(broadcast: bool, text: &[u8]) -> Option<WordFault> {
-    read_call::<V>(broadcast, text).err()
+fn fault_of_call<V: Payload>(kind: ChannelKind, text: &[u8]) -> Option<WordFault> {
+    read_call::<V>(kind, text).err()
 }
 
-/// Whether the channel is a broadcast, the words of a call, and their fault.
-static CALL_FAULTS: [(bool, &[u8], WordFault); 25] = [
-    (true, b"", WordFault::WrongWord),
-    (true, b" send 0 1", WordFault::WrongWord),
-    (true, b"sends 0 07", WordFault::WrongWord),
-    (true, b"changed 1", WordFault::WrongWord),
-    (false, b"downgrade 0", WordFault::WrongWord),
-    (true, b"downgraded 0", WordFault::WrongWord),
-    (true, b"upgrade", WordFault::BadArguments),
-    (true, b"clone-weak 0 1", WordFault::BadArguments),
-    (false, b"recv 1", WordFault::WrongWord),
-    (false, b"recv 4294967296 x", WordFault::WrongWord),
-    (true, b"send", WordFault::BadArguments),
-    (true, b"send ", WordFault::BadArguments),
-    (true, b"send 0", WordFault::BadArguments),
-    (true, b"send 0 07", WordFault::BadArguments),
-    (true, b"send 00 7", WordFault::BadArguments),
-    (true, b"send 0  7", WordFault::BadArguments),
-    (true, b"send 0 7 ", WordFault::BadArguments),
-    (true, b"recv 1 1", WordFault::BadArguments),
-    (true, b"recv r", WordFault::BadArguments),
+/// The kind of the channel, the words of a call, and their fault.
+static CALL_FAULTS: [(ChannelKind, &[u8], WordFault); 25] = [
+    (Broadcast, b"", WordFault::WrongWord),
+    (Broadcast, b" send 0 1", WordFault::WrongWord),
+    (Broadcast, b"sends 0 07", WordFault::WrongWord),
+    (Broadcast, b"changed 1", WordFault::WrongWord),
+    (Watch, b"downgrade 0", WordFault::WrongWord),
+    (Broadcast, b"downgraded 0", WordFault::WrongWord),
+    (Broadcast, b"upgrade", WordFault::BadArguments),
+    (Broadcast, b"clone-weak 0 1", WordFault::BadArguments),
+    (Watch, b"recv 1", WordFault::WrongWord),
+    (Watch, b"recv 4294967296 x", WordFault::WrongWord),
+    (Broadcast, b"send", WordFault::BadArguments),
+    (Broadcast, b"send ", WordFault::BadArguments),
+    (Broadcast, b"send 0", WordFault::BadArguments),
+    (Broadcast, b"send 0 07", WordFault::BadArguments),
+    (Broadcast, b"send 00 7", WordFault::BadArguments),
+    (Broadcast, b"send 0  7", WordFault::BadArguments),
+    (Broadcast, b"send 0 7 ", WordFault::BadArguments),
+    (Broadcast, b"recv 1 1", WordFault::BadArguments),
+    (Broadcast, b"recv r", WordFault::BadArguments),
     (
-        true,
+        Broadcast,
         b"send 4294967296 18446744073709551616",
         WordFault::BadArguments,
     ),
-    (false, b"modify 4294967296 7 maybe", WordFault::BadArguments),
-    (false, b"modify 0 7", WordFault::BadArguments),
-    (true, b"recv 4294967296", WordFault::HandleTooLarge),
+    (Watch, b"modify 4294967296 7 maybe", WordFault::BadArguments),
+    (Watch, b"modify 0 7", WordFault::BadArguments),
+    (Broadcast, b"recv 4294967296", WordFault::HandleTooLarge),
     (
-        true,
+        Broadcast,
         b"send 18446744073709551615 7",
         WordFault::HandleTooLarge,
     ),
-    (false, b"modify 4294967296 7 no", WordFault::HandleTooLarge),
+    (Watch, b"modify 4294967296 7 no", WordFault::HandleTooLarge),
 ];
 
 #[test]
 fn names_the_first_fault_of_a_call() {
-    for (broadcast, text, fault) in &CALL_FAULTS {
-        assert_eq!(fault_of_call::<u64>(*broadcast, text), Some(*fault));
+    for (kind, text, fault) in &CALL_FAULTS {
+        assert_eq!(fault_of_call::<u64>(*kind, text), Some(*fault));
     }
 }
 
 /// Returns the fault of the words of a reply.
-fn fault_of_reply<V: Payload>(broadcast: bool, text: &[u8]) -> Option<WordFault> {
-    read_reply::<V>(broadcast, text).err()
+fn fault_of_reply<V: Payload>(kind: ChannelKind, text: &[u8]) -> Option<WordFault> {
+    read_reply::<V>(kind, text).err()
 }
 
-/// Whether the channel is a broadcast, the words of a reply, and their fault.
-static REPLY_FAULTS: [(bool, &[u8], WordFault); 12] = [
-    (true, b"", WordFault::WrongWord),
-    (true, b"waits", WordFault::WrongWord),
-    (false, b"waits", WordFault::WrongWord),
-    (true, b"stored", WordFault::WrongWord),
-    (false, b"sent 1", WordFault::WrongWord),
-    (false, b"no-sender", WordFault::WrongWord),
-    (true, b"dropped ", WordFault::BadArguments),
-    (true, b"sent", WordFault::BadArguments),
-    (true, b"value 07", WordFault::BadArguments),
-    (false, b"flag maybe", WordFault::BadArguments),
-    (true, b"new 4294967296 ", WordFault::BadArguments),
-    (true, b"new 4294967296", WordFault::HandleTooLarge),
+/// The kind of the channel, the words of a reply, and their fault.
+static REPLY_FAULTS: [(ChannelKind, &[u8], WordFault); 12] = [
+    (Broadcast, b"", WordFault::WrongWord),
+    (Broadcast, b"waits", WordFault::WrongWord),
+    (Watch, b"waits", WordFault::WrongWord),
+    (Broadcast, b"stored", WordFault::WrongWord),
+    (Watch, b"sent 1", WordFault::WrongWord),
+    (Watch, b"no-sender", WordFault::WrongWord),
+    (Broadcast, b"dropped ", WordFault::BadArguments),
+    (Broadcast, b"sent", WordFault::BadArguments),
+    (Broadcast, b"value 07", WordFault::BadArguments),
+    (Watch, b"flag maybe", WordFault::BadArguments),
+    (Broadcast, b"new 4294967296 ", WordFault::BadArguments),
+    (Broadcast, b"new 4294967296", WordFault::HandleTooLarge),
 ];
 
 #[test]
 fn names_the_first_fault_of_a_reply() {
-    for (broadcast, text, fault) in &REPLY_FAULTS {
-        assert_eq!(fault_of_reply::<u64>(*broadcast, text), Some(*fault));
+    for (kind, text, fault) in &REPLY_FAULTS {
+        assert_eq!(fault_of_reply::<u64>(*kind, text), Some(*fault));
     }
 }

@@ -1,4 +1,5 @@
+use Rattle.std.proofs.Common.{inr}
 use Rattle.rw_program.proofs.program.run.Goals as goal
 
-pub returns-clause-ends : goal.returns-clause-ends
-returns-clause-ends g c = (_, c.finish.ensures.says, rw c.finish.ensures.status c.perform_all-ended.ensures)
+pub returns-in-Err-clause-ends : goal.returns-in-Err-clause-ends
+returns-in-Err-clause-ends g c = (_, c.finish-in-Err.ensures.says, rw c.finish-in-Err.ensures.status (inr c.in-Err.ensures))

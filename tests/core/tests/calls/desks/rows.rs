@@ -101,8 +101,8 @@ fn line_of(
     reply: &str,
 ) -> Result<(ChanCall<u64>, ChanReply<u64>), WordFault> {
     Ok((
-        read_call(kind.is_broadcast(), words.as_bytes())?,
-        read_reply(kind.is_broadcast(), reply.as_bytes())?,
+        read_call(kind, words.as_bytes())?,
+        read_reply(kind, reply.as_bytes())?,
     ))
 }
 

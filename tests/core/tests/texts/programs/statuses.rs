@@ -2,7 +2,8 @@
 
 use super::endings::{Ending, ends_as};
 use proved::Global;
-use proved::rw_console::{Outcome, SessionFault};
+use proved::rw_console::Outcome;
+use proved::rw_lines::StreamFault;
 use proved::rw_program::session_on;
 use proved::rw_program::{error_line, status};
 use proved::rw_script::{ScriptFault, ScriptFaultKind};
@@ -14,14 +15,14 @@ const REFUSED: Outcome = Outcome::Refused(ScriptFault {
 });
 
 /// How a session ends, its status, and the line that reports it.
-static STATUSES: [(Result<Outcome, SessionFault>, u8, &str); 7] = [
+static STATUSES: [(Result<Outcome, StreamFault>, u8, &str); 7] = [
     (Ok(Outcome::Done), 0, ""),
     (Ok(REFUSED), 1, ""),
     (Ok(Outcome::Waited(2)), 3, ""),
-    (Err(SessionFault::Read), 4, "read fault\n"),
-    (Err(SessionFault::Write), 4, "write fault\n"),
-    (Err(SessionFault::TooMuch), 4, "read fault\n"),
-    (Err(SessionFault::NoMemory), 5, "no memory\n"),
+    (Err(StreamFault::Read), 4, "read fault\n"),
+    (Err(StreamFault::Write), 4, "write fault\n"),
+    (Err(StreamFault::TooMuch), 4, "read fault\n"),
+    (Err(StreamFault::NoMemory), 5, "no memory\n"),
 ];
 
 #[test]

@@ -2,8 +2,9 @@
 
 use super::endings::Ending;
 use super::files::{JOURNAL, SCRIPT};
+use proved::rw_console::session;
 use proved::rw_program::{
-    Asked, Ended, Verb, over_opened, read_words, refuse_words, run_session, threads_over_opened,
+    Asked, Ended, Verb, over_opened, read_words, refuse_words, threads_over_opened,
 };
 use proved::{Global, RT, String};
 use std::io::{Read, Write};
@@ -118,7 +119,7 @@ fn led_to<F: Read, R: Read, W: Write>(
     out: &mut W,
 ) -> Ended {
     match read_words(words) {
-        Ok(Asked::Session) => run_session(Global, input, out),
+        Ok(Asked::Session) => Ended::of(session(Global, input, out)),
         Ok(Asked::Over(verb, _)) => over_opened(Global, verb, Ok(file), input, out),
         Ok(Asked::Threads(_)) => threads_over_opened(&RT, Global, Ok(file), out),
         Err(fault) => refuse_words(Global, &fault),

@@ -1,8 +1,8 @@
 //! Readers and writers that fail at one call.
 
 use proved::Global;
-use proved::rw_console::session;
-use proved::rw_console::{Outcome, SessionFault};
+use proved::rw_console::{Outcome, session};
+use proved::rw_lines::StreamFault;
 use support::devices::{FailingReader, FailingWriter, at_each_call};
 
 const INPUT: &[u8] =
@@ -16,7 +16,7 @@ const REPORT: &[u8] =
 fn is_whole(
     calls: u64,
     done: bool,
-    (ended, fault): (Result<Outcome, SessionFault>, SessionFault),
+    (ended, fault): (Result<Outcome, StreamFault>, StreamFault),
     writer: &FailingWriter,
 ) -> bool {
     // Flushed once for the line that would wait, and once for each command.
@@ -33,7 +33,7 @@ fn is_read(calls: u64, done: bool) -> bool {
     let mut reader = FailingReader::new(INPUT, 1, Some(calls));
     let mut writer = FailingWriter::new(4096, None);
     let ended = session(Global, &mut reader, &mut writer);
-    is_whole(calls, done, (ended, SessionFault::Read), &writer)
+    is_whole(calls, done, (ended, StreamFault::Read), &writer)
 }
 
 #[test]
@@ -46,7 +46,7 @@ fn is_written(calls: u64, done: bool) -> bool {
     let mut reader = FailingReader::new(INPUT, 64, None);
     let mut writer = FailingWriter::new(5, Some(calls));
     let ended = session(Global, &mut reader, &mut writer);
-    is_whole(calls, done, (ended, SessionFault::Write), &writer)
+    is_whole(calls, done, (ended, StreamFault::Write), &writer)
 }
 
 #[test]
@@ -59,6 +59,6 @@ fn a_writer_that_takes_nothing() {
     let mut reader = FailingReader::new(INPUT, 64, None);
     let mut writer = FailingWriter::new(0, None);
     let ended = session(Global, &mut reader, &mut writer);
-    let told = (Err(SessionFault::Write), b"".as_slice());
+    let told = (Err(StreamFault::Write), b"".as_slice());
     assert_eq!((ended, writer.written()), told);
 }
