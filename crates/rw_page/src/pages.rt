@@ -69,6 +69,7 @@ pub fn hand_over<E: Drop>(page: Result<Vec<u8>, E>, out: &mut [u8], count: &mut 
     ensures known { result ≤ 2 }
     ensures answer { result ≡ 0 → IsOk page × IfOk page (λ text. Holds out.new count.new text.items) }
     ensures room { result ≡ 1 → IsOk page × IfOk page (λ text. Lacks out.new count.new text.items) }
+    ensures given { IsOk page → result < 2 }
     ensures fits { result < 2 → IsOk page × IfOk page (λ text. (result ≡ 0) ↔ (length text.items ≤ length out.old)) }
     ensures kept { 0 < result → out.new ≡ out.old }
     ensures none { result ≡ 2 → count.new ≡ count.old }
