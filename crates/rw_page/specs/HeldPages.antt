@@ -15,6 +15,10 @@ use Rattle.rw_page.specs.PeakLines.{AreChannelTexts, stretches_of}
 abbrev pub HoldsRunOf : Option (Run ℕ) → List ℕ → Type 0
 HoldsRunOf held journal = (run : Run ℕ) × (held ≡ Some run) × (reading_of numbers journal ≡ Ok run)
 
+-- a run is read from the bytes
+abbrev pub IsRead : List ℕ → Type 0
+IsRead journal = (run : Run ℕ) × (reading_of numbers journal ≡ Ok run)
+
 -- the bytes are no journal text
 abbrev pub HasFault : List ℕ → Type 0
 HasFault journal = (fault : TextFault) × (reading_of numbers journal ≡ Err fault)

@@ -4,11 +4,13 @@
 //! that text, and what is found in the run, without reading it again. The page passes the pointer that `ttd_open` has set, and
 //! nothing else: that is what the clauses require. Where memory is refused, the run is still held.
 
-ghost use Rattle.std.specs.Prelude.{◌≡◌, ◌≤◌, ◌<◌, ◌↔◌, length, IfSome, IsSome, None};
+ghost use Rattle.std.specs.Prelude.{◌≡◌, ◌≤◌, ◌<◌, ◌⊎◌, ◌↔◌, length, IfSome, IsSome, None};
+ghost use Rattle.rw_law.specs.Numbers.{numbers};
 ghost use Rattle.rw_page.specs.FoundLines.{IsFoundText};
-ghost use Rattle.rw_page.specs.HeldPages.{AreLevels, HasFault, HoldsOne, HoldsRunOf, LacksOne, answers_of, state_lines};
+ghost use Rattle.rw_page.specs.HeldPages.{AreLevels, HasFault, HoldsOne, HoldsRunOf, IsRead, LacksOne, answers_of, state_lines};
 ghost use Rattle.rw_page.specs.LossLines.{IsLossText};
 ghost use Rattle.rw_page.specs.Pages.{Fits, Holds, IsWithin, Lacks};
+ghost use Rattle.rw_text.specs.Memory.{AsksMemory};
 
 use crate::held::Held;
 use crate::opened::Opened;
@@ -34,6 +36,7 @@ pub extern "C" fn ttd_open(alloc: Global, journal: &[u8], held: &mut Held) -> u8
     ensures known { result ≤ 2 }
     ensures run { result ≡ 0 → HoldsRunOf held.new.run journal.now }
     ensures fault { result ≡ 1 → HasFault journal.now }
+    ensures memory { result ≡ 2 → AsksMemory numbers journal.now ⊎ IsRead journal.now }
     ensures none { 0 < result → held.new.run ≡ None }
 {
     let opened = match Opened::of_text(alloc, journal) {

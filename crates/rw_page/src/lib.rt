@@ -7,7 +7,8 @@
 //! commands write over it, its states, and lines of what is found in it.
 //!
 //! `ttd_held_levels` always returns 2 above its limit, and `ttd_debug` and `ttd_session` do unless the bytes within theirs decide the
-//! output. No clause says where else an export returns 2: the code does where an allocation is refused.
+//! output. The code does where an allocation is refused. No clause says that it does nowhere else, but `ttd_open` hides no fault of the
+//! text by it.
 //! Start reading at `specs/Pages.antt`. The tests of the page (`page/test`) run the exports in a browser.
 //! What stands on it: the page (`page/`).
 #![tactic(auto)]

@@ -1,11 +1,12 @@
 //! A run that was read once, to be asked again and again.
 
-ghost use Rattle.std.specs.Prelude.{◌≡◌, IfOk, IfSome, IfNone, Ok, OnOk};
+ghost use Rattle.std.specs.Prelude.{◌≡◌, ◌⊎◌, IfOk, IfSome, IfNone, Ok, OnErr, OnOk};
 ghost use Rattle.rw_journal.specs.Run.{IsRun};
 ghost use Rattle.rw_law.specs.Numbers.{numbers};
+ghost use Rattle.rw_text.specs.Memory.{AsksMemory};
 ghost use Rattle.rw_text.specs.Reading.{reading_of};
 ghost use Rattle.rw_page.specs.FoundLines.{IsFoundText};
-ghost use Rattle.rw_page.specs.HeldPages.{HasFault, answers_of, state_lines};
+ghost use Rattle.rw_page.specs.HeldPages.{HasFault, IsRead, answers_of, state_lines};
 ghost use Rattle.rw_page.specs.LossLines.{IsLossText};
 ghost use Rattle.rw_page.specs.Opened.{IsWalked, run_walked};
 ghost use Rattle.rw_page.specs.Pages.{IsWithin};
@@ -49,6 +50,8 @@ impl Opened {
     pub fn of_text(alloc: Global, journal: &[u8]) -> Result<Option<Opened>, NoMemory>
         ensures run { IfOk result (λ read. IfSome read (λ opened. reading_of numbers journal.now ≡ Ok opened)) }
         ensures fault { IfOk result (λ read. IfNone read (HasFault journal.now)) }
+        // Memory is refused where the reader asks for it, or once the run is read. So no fault of the text is hidden.
+        ensures memory { OnErr result (AsksMemory numbers journal.now ⊎ IsRead journal.now) }
     {
         let run = match rw_text::read::<u64>(alloc, journal) {
             Ok(run) => run,
