@@ -29,7 +29,7 @@ use Rattle.rw_program.specs.Verbs.{Salvages}
 -- if bytes that were read whole are refused, so is their file, for the same reason
 pub no_script : (file file' : Option (List ℕ)) (bytes : List ℕ) → Consumes file file' bytes → length bytes ≤ MOST_BYTES → (why : Refusal)
     → ((Said : List ℕ → Type 0) → Said bytes → ReadsWhole file file' Said) → IsNoScript bytes why → HasNoScript file file' why
-no_script file file' bytes read few (refusal.Stream fault) whole same =
+no_script file file' bytes read few (refusal.Stream fault) whole (same, asks) =
     (bytes, read, subst (λ (e : StreamFault). ExplainsReading (length bytes) e) (sym same) few)
 no_script file file' bytes read few (refusal.Script fault) whole said = whole _ said
 no_script file file' bytes read few (refusal.Text fault) whole said = absurd said
@@ -37,7 +37,7 @@ no_script file file' bytes read few (refusal.Text fault) whole said = absurd sai
 pub no_text : {X : Type 0} (text_of : List ℕ → Result X TextFault) (file file' : Option (List ℕ)) (bytes : List ℕ) → Consumes file file' bytes
     → length bytes ≤ MOST_BYTES → (why : Refusal)
     → ((Said : List ℕ → Type 0) → Said bytes → ReadsWhole file file' Said) → IsNoText text_of bytes why → HasNoText text_of file file' why
-no_text text_of file file' bytes read few (refusal.Stream fault) whole same =
+no_text text_of file file' bytes read few (refusal.Stream fault) whole (same, asks) =
     (bytes, read, subst (λ (e : StreamFault). ExplainsReading (length bytes) e) (sym same) few)
 no_text text_of file file' bytes read few (refusal.Script fault) whole said = absurd said
 no_text text_of file file' bytes read few (refusal.Text fault) whole said = whole _ said

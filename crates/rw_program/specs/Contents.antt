@@ -2,23 +2,27 @@
 use Rattle.std.specs.Prelude.{◌≡◌, ◌≤◌, ℕ, List, Option, Result, Ok, Err, length}
 use Rattle.std.specs.Io.KnownBytes.{Consumes, IsAtEnd}
 use Rattle.rw_console.specs.declared.sessions.TheConstants.{MOST_BYTES}
+use Rattle.rw_law.specs.Numbers.{numbers}
 use Rattle.rw_lines.specs.declared.streams.StreamFault.TheVariants.{NoMemory}
 use Rattle.rw_lines.specs.Lines.{lines}
+use Rattle.rw_script.specs.Memory as in_script
 use Rattle.rw_script.specs.Script.{Script, script_in}
+use Rattle.rw_text.specs.Memory as in_text
 use Rattle.rw_text.specs.declared.faults.TextFault.{TextFault}
 use Rattle.rw_program.specs.declared.reading.Refusal.{Refusal}
 use Rattle.rw_program.specs.declared.reading.Refusal.TheVariants as refusal
 use Rattle.rw_program.specs.Files.{StopsReading}
 
--- why bytes aren't read as a script: memory ran out, or this is their first fault
+-- why bytes aren't read as a script: memory ran out at a line that allocates, after the lines before it were accepted, or this is
+-- their first fault
 abbrev pub IsNoScript : List ℕ → Refusal → Type 0
-IsNoScript bytes (refusal.Stream fault) = fault ≡ NoMemory
+IsNoScript bytes (refusal.Stream fault) = (fault ≡ NoMemory) × ((number : ℕ) × in_script.AsksMemory (lines bytes) number)
 IsNoScript bytes (refusal.Script fault) = script_in (lines bytes) ≡ Err fault
 IsNoScript bytes (refusal.Text fault) = ⊥
 
 -- the same for a journal text, by how its bytes are read
 abbrev pub IsNoText : {X : Type 0} → (List ℕ → Result X TextFault) → List ℕ → Refusal → Type 0
-IsNoText said bytes (refusal.Stream fault) = fault ≡ NoMemory
+IsNoText said bytes (refusal.Stream fault) = (fault ≡ NoMemory) × in_text.AsksMemory numbers bytes
 IsNoText said bytes (refusal.Script fault) = ⊥
 IsNoText said bytes (refusal.Text fault) = said bytes ≡ Err fault
 
