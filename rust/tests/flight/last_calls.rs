@@ -337,6 +337,7 @@ fn the_lists_of_a_chunk_take_the_memory_of_those_that_are_forgotten() {
     let before = page_faults();
     chunks(20);
     let more = page_faults() - before;
-    // It is 2,300 where the memory of these lists is given back.
-    assert!(more < 200, "{more} pages");
+    // It is 2,300 where the memory of these lists is given back, and some hundreds where the
+    // allocator gives back what other tests have left.
+    assert!(more < 1_000, "{more} pages");
 }
