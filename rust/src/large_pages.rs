@@ -33,8 +33,8 @@ thread_local! {
 }
 
 /// Runs this while its thread leaves memory to the allocator. That is quicker for a thread that
-/// soon ends, and where further lists take the place of those that are dropped: what an earlier use
-/// of a block has written is there, so that it isn't backed again page by page.
+/// soon ends, and where further lists take the place of those that are dropped: their blocks keep
+/// the memory, so that writing to them again isn't a page fault for each page.
 #[allow(dead_code)]
 pub(crate) fn without_giving_back<R>(run: impl FnOnce() -> R) -> R {
     let before = LEAVES.replace(true);

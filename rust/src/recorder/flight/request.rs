@@ -167,11 +167,11 @@ impl DumpRequest {
     pub(crate) fn begin(mut self) {
         let (recorder, told) = (self.recorder.0.clone(), self.told.clone());
         let named = thread::Builder::new().name("yovanelum dump".to_string());
-        let written_apart = move || {
+        let write = move || {
             let written = panic::catch_unwind(AssertUnwindSafe(|| writing::write(&mut self)));
             self.end(written.unwrap_or_else(|_| Err(io::Error::other("it panicked"))));
         };
-        let spawned = named.spawn(|| without_giving_back(written_apart));
+        let spawned = named.spawn(|| without_giving_back(write));
         if let Err(error) = spawned {
             let error = io::Error::new(error.kind(), format!("no thread for it: {error}"));
             let _ = told.send(count(&recorder, Err(error)));
