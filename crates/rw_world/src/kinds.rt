@@ -1,8 +1,5 @@
 //! The kinds of channels.
 
-ghost use Rattle.std.specs.Prelude.{◌≡◌};
-ghost use Rattle.rw_world.specs.Kinds.{is_broadcast};
-
 /// The kind of a channel.
 #[derive(Clone, Copy, Debug, PartialEq, Eq)]
 pub enum ChannelKind {
@@ -10,13 +7,4 @@ pub enum ChannelKind {
     Broadcast,
     /// A watch.
     Watch,
-}
-
-impl ChannelKind {
-    /// Whether it is a broadcast.
-    pub fn is_broadcast(self) -> bool
-        ensures { result ≡ is_broadcast self }
-    {
-        matches!(self, ChannelKind::Broadcast)
-    }
 }

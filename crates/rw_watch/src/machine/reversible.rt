@@ -5,7 +5,7 @@ ghost use Rattle.rw_watch.specs.Laws.{IsDocumented};
 
 use super::Watch;
 use crate::calls::{WCall, WPatch, WReply};
-use rw_handles::MOST_HANDLES;
+use rw_handles::{Found, MOST_HANDLES};
 use rw_law::{NoMemory, Reversible};
 
 impl<V: Copy> Reversible for Watch<V> {
@@ -67,8 +67,8 @@ impl<V: Copy> Reversible for Watch<V> {
         Ok(())
     }
 
-    /// Makes a call, as documented. For every record that shows what this machine shows, the reply is that of the record's
-    /// step, and the machine shows what the record shows after its step.
+    /// Makes a call, as documented, after checks of its handle and of the number of handles. For every record that shows what this
+    /// machine shows, the reply is that of the record's step, and the machine shows what the record shows after its step.
     #[inline(always)]
     fn apply(&mut self, call: &WCall<V>) -> (WReply<V>, WPatch<V>)
         requires { weight self.old.shown < self.old.limit }
@@ -78,7 +78,16 @@ impl<V: Copy> Reversible for Watch<V> {
         ensures room { self.new.limit ≡ self.old.limit }
         ensures documented { IsDocumented self.old.shown call.now result.0 self.new.shown }
     {
-        self.step(call)
+        match self.handles.find(call.handle(), call.wanted()) {
+            Found::Fault(fault) => self.keep(WReply::refused(fault)),
+            Found::Handle(kind, mark) => {
+                if call.makes() && self.handles.made() as usize >= MOST_HANDLES {
+                    self.keep(WReply::TooManyHandles)
+                } else {
+                    self.perform(call, kind, mark)
+                }
+            }
+        }
     }
 
     fn undo(&mut self, call: &WCall<V>, patch: &WPatch<V>) {

@@ -9,8 +9,8 @@ use std::path::Path;
 #[rustfmt::skip]
 const COVERED: &[(&str, &str, &str)] = &[
     ("rw_broadcast/src/machine.rt", "open", "open_channel, capacity"),
+    ("rw_broadcast/src/machine/reversible.rt", "apply", "Broadcast, handles"),
     ("rw_broadcast/src/machine/reversible.rt", "ready", "Broadcast, handles"),
-    ("rw_broadcast/src/machine/steps.rt", "step", "Broadcast, handles"),
     ("rw_console/src/command.rt", "command_of", "none: a command of more bytes than a line may have is a bad one, as are all of so many"),
     ("rw_console/src/debugging.rt", "debug_again", "debug, bytes"),
     ("rw_console/src/sessions.rt", "session", "session, bytes"),
@@ -45,8 +45,8 @@ const COVERED: &[(&str, &str, &str)] = &[
     ("rw_text/src/reader.rt", "leave", "read, a line"),
     ("rw_text/src/reader.rt", "read_channel", "read, channels"),
     ("rw_text/src/reader.rt", "read_line", "read, a line"),
+    ("rw_watch/src/machine/reversible.rt", "apply", "Watch, handles"),
     ("rw_watch/src/machine/reversible.rt", "ready", "Watch, handles"),
-    ("rw_watch/src/machine/steps.rt", "step", "Watch, handles"),
     ("rw_world/src/members.rt", "least_limit", "none: a row with no channel has no limit of its own"),
     ("rw_world/src/opening.rt", "has_bad_capacity", "open_channel, capacity"),
     ("rw_world/src/opening.rt", "refusal_of", "open, channels"),

@@ -6,7 +6,7 @@
 
 use super::Broadcast;
 use crate::source::rw_broadcast::calls::{BCall, BPatch, BReply};
-use crate::source::rw_handles::MOST_HANDLES;
+use crate::source::rw_handles::{Found, MOST_HANDLES};
 use crate::source::rw_law::{NoMemory, Reversible};
 
 impl<V: Copy> Reversible for Broadcast<V> {
@@ -69,8 +69,8 @@ impl<V: Copy> Reversible for Broadcast<V> {
         Ok(())
     }
 
-    /// Makes a call, as documented. For every record that shows what this machine shows, the reply is that of the record's
-    /// step, and the machine shows what the record shows after its step.
+    /// Makes a call, as documented, after checks of its handle and of the number of handles. For every record that shows what this
+    /// machine shows, the reply is that of the record's step, and the machine shows what the record shows after its step.
     #[inline(always)]
     fn apply(&mut self, call: &BCall<V>) -> (BReply<V>, BPatch<V>)
 //~         requires { weight self.old.shown < self.old.limit }
@@ -80,7 +80,16 @@ impl<V: Copy> Reversible for Broadcast<V> {
 //~         ensures room { self.new.limit ≡ self.old.limit }
 //~         ensures documented { IsDocumented self.old.shown call.now result.0 self.new.shown }
     {
-        self.step(call)
+        match self.handles.find(call.handle(), call.wanted()) {
+            Found::Fault(fault) => self.keep(BReply::refused(fault)),
+            Found::Handle(kind, position) => {
+                if call.makes() && self.handles.made() as usize >= MOST_HANDLES {
+                    self.keep(BReply::TooManyHandles)
+                } else {
+                    self.perform(call, kind, position)
+                }
+            }
+        }
     }
 
     fn undo(&mut self, call: &BCall<V>, patch: &BPatch<V>) {

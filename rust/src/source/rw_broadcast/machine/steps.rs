@@ -6,7 +6,7 @@
 //~ ghost use Rattle.rw_handles.specs.declared.kinds.Found.TheVariants.{Handle};
 //~ ghost use Rattle.rw_handles.specs.Slots.{lookup};
 //~ ghost use Rattle.rw_handles.specs.declared.table.TheConstants.{MOST_HANDLES};
-//~ ghost use Rattle.rw_broadcast.specs.Channel.{Keep, Make, Move, Leave, send, read, receive, upgrade, effect};
+//~ ghost use Rattle.rw_broadcast.specs.Channel.{Keep, Make, Move, Leave, send, read, receive, upgrade};
 //~ ghost use Rattle.rw_broadcast.specs.Channel.{effect_with, handle_of, wanted_kind, makes, oldest, receivers};
 //~ ghost use Rattle.rw_broadcast.specs.Shown.{CanUnsend, IsPlaced, channel_of, weight};
 //~ ghost use Rattle.rw_ring.specs.Windows.{window_before};
@@ -14,7 +14,7 @@
 
 use super::Broadcast;
 use crate::source::rw_broadcast::calls::{BCall, BPatch, BReply};
-use crate::source::rw_handles::{Found, Kind, MOST_HANDLES};
+use crate::source::rw_handles::Kind;
 
 impl<V: Copy> Broadcast<V> {
     /// Returns how many receivers are alive.
@@ -27,7 +27,7 @@ impl<V: Copy> Broadcast<V> {
 
     /// Changes nothing, and returns this reply.
     #[inline(always)] //+
-    fn keep(&self, reply: BReply<V>) -> (BReply<V>, BPatch<V>)
+    pub(super) fn keep(&self, reply: BReply<V>) -> (BReply<V>, BPatch<V>)
 //~         ensures { Takes self.now self.now result (Keep, reply) }
     {
         (reply, BPatch::Same)
@@ -134,7 +134,12 @@ impl<V: Copy> Broadcast<V> {
 
     /// Makes a call with the live handle that was found.
     #[inline(always)]
-    fn perform(&mut self, call: &BCall<V>, kind: Kind, position: u64) -> (BReply<V>, BPatch<V>)
+    pub(super) fn perform(
+        &mut self,
+        call: &BCall<V>,
+        kind: Kind,
+        position: u64,
+    ) -> (BReply<V>, BPatch<V>)
 //~         requires room { weight self.old.shown < self.old.limit }
 //~         requires found { lookup (wanted_kind call.now) self.old.shown.slots (handle_of call.now) ≡ Handle kind position }
 //~         requires few { IsTrue (makes call.now) → length self.old.shown.slots < MOST_HANDLES }
@@ -155,25 +160,6 @@ impl<V: Copy> Broadcast<V> {
             BCall::Downgrade(_) => self.make(Kind::Weak, 0),
             BCall::Upgrade(_) => self.upgrade(),
             BCall::CloneWeak(_) => self.make(Kind::Weak, 0),
-        }
-    }
-
-    /// Makes a call, after checks of its handle and of the number of handles.
-    #[inline(always)]
-    pub(super) fn step(&mut self, call: &BCall<V>) -> (BReply<V>, BPatch<V>)
-//~         requires { weight self.old.shown < self.old.limit }
-//~         ensures taken { Takes self.old self.new result (effect (channel_of self.old.shown) call.now) }
-//~         ensures some_capacity { 0 < self.old.shown.capacity }
-    {
-        match self.handles.find(call.handle(), call.wanted()) {
-            Found::Fault(fault) => self.keep(BReply::refused(fault)),
-            Found::Handle(kind, position) => {
-                if call.makes() && self.handles.made() as usize >= MOST_HANDLES {
-                    self.keep(BReply::TooManyHandles)
-                } else {
-                    self.perform(call, kind, position)
-                }
-            }
         }
     }
 

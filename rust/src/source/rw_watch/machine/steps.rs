@@ -7,13 +7,13 @@
 //~ ghost use Rattle.rw_handles.specs.Slots.{lookup};
 //~ ghost use Rattle.rw_handles.specs.declared.table.TheConstants.{MOST_HANDLES};
 //~ ghost use Rattle.rw_watch.specs.Channel.{Keep, Write, Make, Mark, Leave, receivers, has_no_receiver, is_unseen, send, see};
-//~ ghost use Rattle.rw_watch.specs.Channel.{has_changed, wait_effect, await_closed, effect, effect_with, handle_of, wanted_kind, makes};
+//~ ghost use Rattle.rw_watch.specs.Channel.{has_changed, wait_effect, await_closed, effect_with, handle_of, wanted_kind, makes};
 //~ ghost use Rattle.rw_watch.specs.Shown.{CanUntell, IsAllowed, IsMark, IsMarked, weight, version_before};
 //~ ghost use Rattle.rw_watch.specs.Machine.{Takes};
 
 use super::Watch;
 use crate::source::rw_watch::calls::{WCall, WPatch, WReply};
-use crate::source::rw_handles::{Found, Kind, MOST_HANDLES};
+use crate::source::rw_handles::Kind;
 
 impl<V: Copy> Watch<V> {
     /// Whether a receiver with this mark has not seen the value.
@@ -45,7 +45,7 @@ impl<V: Copy> Watch<V> {
 
     /// Changes nothing, and returns this reply.
     #[inline(always)] //+
-    fn keep(&self, reply: WReply<V>) -> (WReply<V>, WPatch<V>)
+    pub(super) fn keep(&self, reply: WReply<V>) -> (WReply<V>, WPatch<V>)
 //~         ensures { Takes self.now self.now result (Keep, reply) }
     {
         (reply, WPatch::Same)
@@ -165,7 +165,12 @@ impl<V: Copy> Watch<V> {
 
     /// Makes a call with the live handle that was found.
     #[inline(always)]
-    fn perform(&mut self, call: &WCall<V>, kind: Kind, mark: Option<u64>) -> (WReply<V>, WPatch<V>)
+    pub(super) fn perform(
+        &mut self,
+        call: &WCall<V>,
+        kind: Kind,
+        mark: Option<u64>,
+    ) -> (WReply<V>, WPatch<V>)
 //~         requires room { weight self.old.shown < self.old.limit }
 //~         requires found { lookup (wanted_kind call.now) self.old.shown.slots (handle_of call.now) ≡ Handle kind mark }
 //~         requires few { IsTrue (makes call.now) → length self.old.shown.slots < MOST_HANDLES }
@@ -188,24 +193,6 @@ impl<V: Copy> Watch<V> {
             WCall::ReceiverCount(_) => self.keep(WReply::Count(self.receivers())),
             WCall::IsClosed(_) => self.keep(WReply::Flag(self.has_no_receiver())),
             WCall::AwaitClosed(_) => self.keep(self.await_closed()),
-        }
-    }
-
-    /// Makes a call, after checks of its handle and of the number of handles.
-    #[inline(always)]
-    pub(super) fn step(&mut self, call: &WCall<V>) -> (WReply<V>, WPatch<V>)
-//~         requires { weight self.old.shown < self.old.limit }
-//~         ensures { Takes self.old self.new result (effect self.old.shown call.now) }
-    {
-        match self.handles.find(call.handle(), call.wanted()) {
-            Found::Fault(fault) => self.keep(WReply::refused(fault)),
-            Found::Handle(kind, mark) => {
-                if call.makes() && self.handles.made() as usize >= MOST_HANDLES {
-                    self.keep(WReply::TooManyHandles)
-                } else {
-                    self.perform(call, kind, mark)
-                }
-            }
         }
     }
 

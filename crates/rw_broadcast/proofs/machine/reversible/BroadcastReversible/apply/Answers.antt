@@ -1,8 +1,13 @@
-use Rattle.std.proofs.Common.{◌∙◌}
+use Rattle.std.proofs.Common.{rules, ◌≡◌, ◌<◌, ◌∙◌}
+use Rattle.rw_broadcast.specs.Shown.{next, reply_of}
 use Rattle.rw_broadcast.proofs.Showing.{documented}
 use Rattle.rw_broadcast.proofs.machine.reversible.BroadcastReversible.apply.Goals as goal
 
-pub returns-clause-documented : goal.returns-clause-documented
-returns-clause-documented g c r shows =
-    let as_documented = documented c.args.self.now.shown c.args.call.now c.step.ensures.some_capacity r shows in
-    (c.step.ensures.taken.reply ∙ as_documented.0, c.step.ensures.taken.shown ∙ as_documented.1)
+pub returns-else-makes-clause-documented : goal.returns-else-makes-clause-documented
+returns-else-makes-clause-documented g c r shows =
+    let x = c.args.self.now.shown in
+    let some : 0 < x.capacity = search rules in
+    let reply : c.perform.result.0 ≡ reply_of x c.args.call.now = search rules in
+    let view : c.perform.new.self.shown ≡ next x c.args.call.now = search rules in
+    let as_documented = documented x c.args.call.now some r shows in
+    (reply ∙ as_documented.0, view ∙ as_documented.1)
