@@ -1,6 +1,6 @@
 //! The machine of one channel, which follows the places of a run.
 
-ghost use Rattle.std.specs.Prelude.{◌≡◌, ◌+◌, ◌<◌, ◌≤◌, IfOk, length};
+ghost use Rattle.std.specs.Prelude.{◌+◌, ◌<◌, ◌≤◌, IfOk, length};
 ghost use Rattle.rw_findings.specs.Following.{Stands};
 ghost use Rattle.rw_navigator.specs.Places.{last_place};
 

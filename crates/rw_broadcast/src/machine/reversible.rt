@@ -1,5 +1,5 @@
 //! A broadcast channel as a machine whose steps can be undone.
-ghost use Rattle.std.specs.Prelude.{◌≡◌, ◌<◌, ◌≤◌};
+ghost use Rattle.std.specs.Prelude.{◌≡◌, ◌<◌};
 ghost use Rattle.rw_broadcast.specs.Shown.{weight, next, reply_of, patch_of};
 ghost use Rattle.rw_broadcast.specs.Laws.{IsDocumented};
 

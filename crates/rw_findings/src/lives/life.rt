@@ -1,6 +1,6 @@
 //! The life of a handle.
 
-ghost use Rattle.std.specs.Prelude.{◌≡◌, ◌+◌, ◌<◌, ◌^◌, ℕ, None, OnOk, IsSome, slice_index_or};
+ghost use Rattle.std.specs.Prelude.{◌≡◌, ◌+◌, ◌<◌, ◌^◌, None, OnOk, slice_index_or};
 ghost use Rattle.rw_findings.specs.Lives.{Counted, born, with_kind};
 
 use rw_handles::Kind;

@@ -1,7 +1,7 @@
 //! Peaks by receiver and stretch.
 
-ghost use Rattle.std.specs.Prelude.{◌≡◌, ℕ, [], IfOk, OnOk, length, slice_index_or};
-ghost use Rattle.rw_findings.specs.Peaks.{Raised, alone, peak_in, raised_to};
+ghost use Rattle.std.specs.Prelude.{◌≡◌, ℕ, [], OnOk, length, slice_index_or};
+ghost use Rattle.rw_findings.specs.Peaks.{Raised, alone, raised_to};
 
 use rw_law::NoMemory;
 use std::alloc::Global;

@@ -1,5 +1,5 @@
 //! The steps of a watch channel, by the table of calls.
-ghost use Rattle.std.specs.Prelude.{◌≡◌, ◌<◌, ◌≤◌, length, slice_get, Some, IsTrue};
+ghost use Rattle.std.specs.Prelude.{◌≡◌, ◌<◌, length, slice_get, Some, IsTrue};
 ghost use Rattle.rw_handles.specs.declared.kinds.Kind.TheVariants.{Receiver};
 ghost use Rattle.rw_handles.specs.declared.kinds.Slot.TheVariants.{Live};
 ghost use Rattle.rw_handles.specs.declared.kinds.Found.TheVariants.{Handle};
