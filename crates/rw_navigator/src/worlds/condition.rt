@@ -6,9 +6,9 @@ ghost use Rattle.rw_words.specs.ReplyWords.{reply_word_of};
 
 use crate::conditions::Probe;
 use rw_broadcast::Broadcast;
-use rw_law::{Entry, Payload, Reversible};
+use rw_law::{Entry, Reversible};
 use rw_watch::Watch;
-use rw_words::ReplyWord;
+use rw_words::{ReplyWord, reply_word_of};
 use rw_world::{Chan, ChanReply, World};
 
 /// A condition to search a world's run for: the first three are on its entries, the others on its states.
@@ -52,7 +52,7 @@ pub enum Cond {
     },
 }
 
-impl<V: Payload> Probe<World<V>> for Cond {
+impl<V: Copy> Probe<World<V>> for Cond {
     ghost use Rattle.rw_navigator.specs.Conditions.{asks_step, holds_of_step, holds_of_shown};
 
     ghost asks_step = { asks_step };
@@ -101,10 +101,10 @@ impl<V: Payload> Probe<World<V>> for Cond {
 }
 
 /// Whether a reply's first word is this one.
-fn begins_with<V: Payload>(reply: &ChanReply<V>, word: ReplyWord) -> bool
+fn begins_with<V: Copy>(reply: &ChanReply<V>, word: ReplyWord) -> bool
     ensures { result ≡ has (same_word word) (reply_word_of reply.now) }
 {
-    match ReplyWord::of_reply(reply) {
+    match reply_word_of(reply) {
         Some(first) => word.text() == first.text(),
         None => false,
     }

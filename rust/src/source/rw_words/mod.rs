@@ -19,4 +19,4 @@ mod writing;
 pub use arguments::{WordFault, first_word};
 pub use entries::write_entry;
 pub use reading::{read_call, read_reply, read_split_call};
-pub use reply_word::ReplyWord;
+pub use reply_word::{ReplyWord, reply_word_of};

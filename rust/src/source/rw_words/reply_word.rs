@@ -28,8 +28,8 @@ fn word_in(token: &[u8]) -> Option<ReplyWord>
     }
 }
 
-/// Returns the word of a reply, from the table of its kind.
-fn word_of<V: Copy>(reply: &ChanReply<V>) -> Option<ReplyWord>
+/// Returns the word of a reply, from the table of its kind. No value needs a word for it, as the reply's text does.
+pub fn reply_word_of<V: Copy>(reply: &ChanReply<V>) -> Option<ReplyWord>
 //~     ensures { result ≡ reply_word_of reply.now }
 {
     match reply {
@@ -60,7 +60,7 @@ impl ReplyWord {
 //~         ensures exact { result ≡ reply_word_of reply.now }
 //~         ensures first { IfSome result (λ word. first_word (reply_text V.Payload reply.now) ≡ reply_word_text word) }
     {
-        word_of(reply)
+        reply_word_of(reply)
     }
 
     /// Returns the word as text.
