@@ -175,15 +175,8 @@ fn play_all<D: Calls + Sync, G: Gate + Sync, R: Threads + Wait + Sync>(
     steps: &[ScriptStep],
     passes: Vec<Pass<u64>>,
 ) -> Result<Vec<Pass<u64>>, RunFault> {
-    let Ok(mut back) = Vec::with_capacity(alloc, passes.len()) else {
-        drop(passes);
-        return Err(RunFault::NoMemory);
-    };
-    let Ok(mut threads) = Vec::with_capacity(alloc, passes.len()) else {
-        drop(passes);
-        drop(back);
-        return Err(RunFault::NoMemory);
-    };
+    let mut back = Vec::with_capacity(alloc, passes.len()).map_err(|_| RunFault::NoMemory)?;
+    let mut threads = Vec::with_capacity(alloc, passes.len()).map_err(|_| RunFault::NoMemory)?;
     let latch = StartLatch::new();
     let signal = &latch;
     // This remains the result unless all threads are started.
@@ -201,21 +194,8 @@ fn play_all<D: Calls + Sync, G: Gate + Sync, R: Threads + Wait + Sync>(
             played = joined;
         }
     });
-    match played {
-        Ok(()) => Ok(back),
-        Err(fault) => {
-            drop(back);
-            Err(fault)
-        }
-    }
-}
-
-/// Returns the script's fault for a fault of closing the desk.
-fn fault_of(fault: CloseFault) -> RunFault {
-    match fault {
-        CloseFault::NoMemory => RunFault::NoMemory,
-        _ => RunFault::Strayed,
-    }
+    played?;
+    Ok(back)
 }
 
 /// Closes the desk, and returns its run.
@@ -229,7 +209,10 @@ fn close(alloc: Global, desk: Desk<u64>, passes: Vec<Pass<u64>>) -> Result<Run<u
         Err((fault, desk, passes)) => {
             drop(desk);
             drop(passes);
-            Err(fault_of(fault))
+            match fault {
+                CloseFault::NoMemory => Err(RunFault::NoMemory),
+                _ => Err(RunFault::Strayed),
+            }
         }
     }
 }
@@ -257,14 +240,9 @@ fn played(
     requires actors { desk.actors ≡ script.now.actors }
     ensures { IfOk result (IsRunOf script.now) }
 {
-    if let Err(fault) = follow_all(alloc, script.steps(), &passes) {
-        drop(desk);
-        drop(passes);
-        return Err(fault);
-    }
+    follow_all(alloc, script.steps(), &passes)?;
     let run = close(alloc, desk, passes)?;
     if !are_of(run.entries(), script.actors()) {
-        drop(run);
         return Err(RunFault::Strayed);
     }
     Ok(run)
@@ -290,13 +268,6 @@ pub fn run_threads<G: Gate + Sync, R: Threads + Wait + Sync>(
     };
     drop(ends);
     let shared = Shared { desk };
-    let back = play_all(rt, alloc, &shared, gate, script.steps(), passes);
-    let Shared { desk } = shared;
-    match back {
-        Ok(passes) => played(alloc, script, desk, passes),
-        Err(fault) => {
-            drop(desk);
-            Err(fault)
-        }
-    }
+    let passes = play_all(rt, alloc, &shared, gate, script.steps(), passes)?;
+    played(alloc, script, shared.desk, passes)
 }

@@ -9,5 +9,5 @@ returns-clause-entries g c =
     let es = c.run_steps.new.book.entries in
     let x = m.shown c.args.start in
     c.journal_of_an_interleaving.ensures.one x 0 es
-    (subst (λ y. IsLegal m y es) (c.in-Ok.ensures.opened ∙ ap m.shown c.in_ok-book.ensures.opening) c.book_law.ensures.legal) c.in-Ok.ensures.stamps
-    ∙ ap (journal_of m x 0) c.in-Ok.ensures.calls
+    (subst (λ y. IsLegal m y es) (c.in_ok-waits.ensures.opened ∙ ap m.shown c.in_ok-book.ensures.opening) c.book_law.ensures.legal) c.in_ok-waits.ensures.stamps
+    ∙ ap (journal_of m x 0) c.in_ok-waits.ensures.calls

@@ -13,7 +13,7 @@ returns c =
     let run = c.in_ok-run.run' in
     let ps = c.args.passes.items in
     let here : AreAllHere s.actors ps = subst (λ n. AreAllHere n ps) c.requires.actors c.in_ok-run.ensures.here in
-    let followed : Each (IsFollowed s.steps) ps = rw (← c.steps.ensures.steps, ← c.deref.ensures.value) c.in_default.ensures in
+    let followed : Each (IsFollowed s.steps) ps = rw (← c.steps.ensures.steps, ← c.deref.ensures.value) c.in_ok-follow_all.ensures in
     let known = subst (λ n. All (λ (e : WorldEntry ℕ). e.actor < n) c.entries.result.now) c.actors.ensures.actors (c.if-not-are_of.ensures refl) in
     record {
       run_is = subst (IsRun run.specs) c.entries.ensures.entries c.entries.ensures.run;
