@@ -13,7 +13,7 @@ ghost use Rattle.rw_program.specs.Threads.{RecordsBy};
 ghost use Rattle.rw_program.specs.Verbs.{Checks, DoneBy, Records, Salvages, Walks};
 
 use crate::endings::Ended;
-use crate::reading::{Refusal, read_run, read_salvage, read_script};
+use crate::reading::{FileFault, read_run, read_salvage, read_script};
 use crate::statuses::{REFUSED_INPUT, WOULD_WAIT};
 use crate::threads::record_by;
 use crate::words::Verb;
@@ -40,16 +40,16 @@ fn end_with<W: Write>(out: &mut W, line: &str, status: u8) -> Ended
 }
 
 /// Returns the end for a file that is refused. Its line has the reason.
-fn tell(alloc: Global, why: Refusal) -> Ended
+fn tell(alloc: Global, why: FileFault) -> Ended
     ensures { TellsWhy (line_of result) result.status why }
 {
     match why {
-        Refusal::Stream(fault) => Ended::of(Err(fault)),
-        Refusal::Script(fault) => match fault_line(alloc, fault) {
+        FileFault::Stream(fault) => Ended::of(Err(fault)),
+        FileFault::Script(fault) => match fault_line(alloc, fault) {
             Ok(line) => Ended::told_by(line, REFUSED_INPUT),
             Err(_) => Ended::of(Err(StreamFault::NoMemory)),
         },
-        Refusal::Text(fault) => match fault.line(alloc) {
+        FileFault::Text(fault) => match fault.line(alloc) {
             Ok(line) => Ended::told_by(line, REFUSED_INPUT),
             Err(_) => Ended::of(Err(StreamFault::NoMemory)),
         },
@@ -57,12 +57,12 @@ fn tell(alloc: Global, why: Refusal) -> Ended
 }
 
 /// Returns the end for a file that is refused. A journal text's fault is written to `out`.
-pub(crate) fn refuse<W: Write>(alloc: Global, out: &mut W, why: Refusal) -> Ended
+pub(crate) fn refuse<W: Write>(alloc: Global, out: &mut W, why: FileFault) -> Ended
     ensures { Refuses (W.contents out.old) (W.contents out.new) (line_of result) result.status why }
 {
     match why {
-        Refusal::Stream(_) | Refusal::Script(_) => tell(alloc, why),
-        Refusal::Text(fault) => match fault.line(alloc) {
+        FileFault::Stream(_) | FileFault::Script(_) => tell(alloc, why),
+        FileFault::Text(fault) => match fault.line(alloc) {
             Ok(line) => end_with(out, line.as_str(), REFUSED_INPUT),
             Err(_) => Ended::of(Err(StreamFault::NoMemory)),
         },
