@@ -13,8 +13,8 @@ use Rattle.rw_lines.specs.declared.streams.StreamFault.TheVariants.{Read, Write,
 use Rattle.rw_lines.specs.Writing.{WritesPrefix}
 use Rattle.rw_text.specs.declared.faults.TextFault.{TextFault}
 use Rattle.rw_text.specs.Faults.{text_fault_line}
-use Rattle.rw_program.specs.declared.reading.Refusal.{Refusal}
-use Rattle.rw_program.specs.declared.reading.Refusal.TheVariants as refusal
+use Rattle.rw_program.specs.declared.reading.FileFault.{FileFault}
+use Rattle.rw_program.specs.declared.reading.FileFault.TheVariants as file_fault
 use Rattle.rw_program.specs.Endings.{Ending, refused_script, refused_text}
 use Rattle.rw_program.specs.Runs.{Runs}
 use Rattle.rw_program.specs.Statuses.{Tells, status_of}
@@ -82,16 +82,16 @@ abbrev pub TellsLine : List ℕ → ℕ → List ℕ → ℕ → Type 0
 TellsLine line status told answered = ((line ≡ told) × (status ≡ answered)) ⊎ Tells line status (Err NoMemory)
 
 -- the reason why a file is refused is reported
-abbrev pub TellsWhy : List ℕ → ℕ → Refusal → Type 0
-TellsWhy line status (refusal.Stream fault) = Tells line status (Err fault)
-TellsWhy line status (refusal.Script fault) = TellsLine line status (fault_line fault) 1
-TellsWhy line status (refusal.Text fault) = TellsLine line status (text_fault_line fault) 1
+abbrev pub TellsWhy : List ℕ → ℕ → FileFault → Type 0
+TellsWhy line status (file_fault.Stream fault) = Tells line status (Err fault)
+TellsWhy line status (file_fault.Script fault) = TellsLine line status (fault_line fault) 1
+TellsWhy line status (file_fault.Text fault) = TellsLine line status (text_fault_line fault) 1
 
 -- the same, except that a journal text's fault is written to standard output
-abbrev pub Refuses : Option (List ℕ) → Option (List ℕ) → List ℕ → ℕ → Refusal → Type 0
-Refuses out out' line status (refusal.Stream fault) = TellsOnly out out' line status fault
-Refuses out out' line status (refusal.Script fault) = Closes out out' line status (refused_script fault)
-Refuses out out' line status (refusal.Text fault) = Closes out out' line status (refused_text fault)
+abbrev pub Refuses : Option (List ℕ) → Option (List ℕ) → List ℕ → ℕ → FileFault → Type 0
+Refuses out out' line status (file_fault.Stream fault) = TellsOnly out out' line status fault
+Refuses out out' line status (file_fault.Script fault) = Closes out out' line status (refused_script fault)
+Refuses out out' line status (file_fault.Text fault) = Closes out out' line status (refused_text fault)
 
 -- which line would wait is reported, or memory ran out
 abbrev pub SaysWaiting : List ℕ → ℕ → Option ℕ → Type 0
