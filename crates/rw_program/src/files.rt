@@ -1,12 +1,11 @@
 //! Runs over a script or a journal text in a file.
 
-ghost use Rattle.std.specs.Prelude.{◌≡◌, ◌≤◌, ◌<◌, ℕ, List, [], length, IfErr, OnOk};
+ghost use Rattle.std.specs.Prelude.{◌≡◌, ◌≤◌, ◌<◌, ℕ, List, [], length, string_bytes, IfErr, IfOk, OnOk};
 ghost use Rattle.std.specs.Io.KnownBytes.{Appends, Keeps};
 ghost use Rattle.rw_lines.specs.Writing.{WritesPrefix};
 ghost use Rattle.rw_law.specs.Numbers.{numbers};
 ghost use Rattle.rw_text.specs.Texts.{text};
-ghost use Rattle.rw_program.specs.Endings.{kept_line};
-ghost use Rattle.rw_program.specs.Files.{Closes, Refuses, SaysWaiting, TellsLine, TellsWhy};
+ghost use Rattle.rw_program.specs.Files.{Closes, Refuses, SaysWaiting, TellsWhy};
 ghost use Rattle.rw_program.specs.Lines.{line_of};
 ghost use Rattle.rw_program.specs.Statuses.{Says};
 ghost use Rattle.rw_program.specs.Threads.{RecordsBy};
@@ -21,18 +20,20 @@ use rw_console::{Outcome, debug, fault_line, waiting_line};
 use rw_journal::Run;
 use rw_lines::{StreamFault, flush, put_whole};
 use rw_script::run_one;
-use std::alloc::Global;
+use std::alloc::{AllocError, Global};
 use std::io::{Read, Write};
 use std::sync::Wait;
 use std::thread::Threads;
 
-/// Writes a line, and ends with this status, unless the writer fails.
-fn end_with<W: Write>(out: &mut W, line: &str, status: u8) -> Ended
-    requires known { status ≤ 5 }
-    requires some { 0 < length line.now }
-    ensures { Closes (W.contents out.old) (W.contents out.new) (line_of result) result.status
-        (record { written = line.now; told = []; status = status }) }
+/// Writes a line, and ends with this status, unless the writer fails or memory ran out before the line was made.
+fn end_with<W: Write>(out: &mut W, line: Result<String, AllocError>, status: u8) -> Ended
+    requires { status ≤ 5 }
+    ensures { (text : List ℕ) → 0 < length text → IfOk line (λ made. string_bytes made ≡ text) → Closes (W.contents out.old) (W.contents out.new)
+        (line_of result) result.status (record { written = text; told = []; status = status }) }
 {
+    let Ok(line) = line else {
+        return Ended::of(Err(StreamFault::NoMemory));
+    };
     match put_whole(out, line.as_bytes()) {
         Ok(()) => Ended::silent(status),
         Err(fault) => Ended::of(Err(fault)),
@@ -45,40 +46,28 @@ fn tell(alloc: Global, why: FileFault) -> Ended
 {
     match why {
         FileFault::Stream(fault) => Ended::of(Err(fault)),
-        FileFault::Script(fault) => match fault_line(alloc, fault) {
-            Ok(line) => Ended::told_by(line, REFUSED_INPUT),
-            Err(_) => Ended::of(Err(StreamFault::NoMemory)),
-        },
-        FileFault::Text(fault) => match fault.line(alloc) {
-            Ok(line) => Ended::told_by(line, REFUSED_INPUT),
-            Err(_) => Ended::of(Err(StreamFault::NoMemory)),
-        },
+        FileFault::Script(fault) => Ended::told(fault_line(alloc, fault), REFUSED_INPUT),
+        FileFault::Text(fault) => Ended::told(fault.line(alloc), REFUSED_INPUT),
     }
 }
 
 /// Returns the end for a file that is refused. A journal text's fault is written to `out`.
-pub(crate) fn refuse<W: Write>(alloc: Global, out: &mut W, why: FileFault) -> Ended
+pub(crate) fn end_of_refused<W: Write>(alloc: Global, out: &mut W, why: FileFault) -> Ended
     ensures { Refuses (W.contents out.old) (W.contents out.new) (line_of result) result.status why }
 {
     match why {
         FileFault::Stream(_) | FileFault::Script(_) => tell(alloc, why),
-        FileFault::Text(fault) => match fault.line(alloc) {
-            Ok(line) => end_with(out, line.as_str(), REFUSED_INPUT),
-            Err(_) => Ended::of(Err(StreamFault::NoMemory)),
-        },
+        FileFault::Text(fault) => end_with(out, fault.line(alloc), REFUSED_INPUT),
     }
 }
 
 /// Returns the end of a script's run. Its line says which line would wait, if there is one.
-fn say_waiting(alloc: Global, waits: Option<u64>) -> Ended
+fn end_of_waiting(alloc: Global, waits: Option<u64>) -> Ended
     ensures { SaysWaiting (line_of result) result.status waits }
 {
-    let Some(number) = waits else {
-        return Ended::of(Ok(Outcome::Done));
-    };
-    match waiting_line(alloc, number) {
-        Ok(line) => Ended::told_by(line, WOULD_WAIT),
-        Err(_) => Ended::of(Err(StreamFault::NoMemory)),
+    match waits {
+        None => Ended::of(Ok(Outcome::Done)),
+        Some(number) => Ended::told(waiting_line(alloc, number), WOULD_WAIT),
     }
 }
 
@@ -100,7 +89,7 @@ pub(crate) fn record<F: Read, W: Write>(alloc: Global, file: &mut F, out: &mut W
 {
     let script = match read_script(alloc, file) {
         Ok(script) => script,
-        Err(why) => return refuse(alloc, out, why),
+        Err(why) => return end_of_refused(alloc, out, why),
     };
     let ran = run_one(alloc, &script);
     drop(script);
@@ -110,7 +99,7 @@ pub(crate) fn record<F: Read, W: Write>(alloc: Global, file: &mut F, out: &mut W
     let written = write_journal(&run, out);
     drop(run);
     match written {
-        Ok(()) => say_waiting(alloc, waits),
+        Ok(()) => end_of_waiting(alloc, waits),
         Err(fault) => Ended::of(Err(fault)),
     }
 }
@@ -121,24 +110,11 @@ fn check<F: Read, W: Write>(alloc: Global, file: &mut F, out: &mut W) -> Ended
 {
     let run = match read_run(alloc, file) {
         Ok(run) => run,
-        Err(why) => return refuse(alloc, out, why),
+        Err(why) => return end_of_refused(alloc, out, why),
     };
     let count = run.len();
     drop(run);
-    match format!(in alloc; "ok {count}\n") {
-        Ok(line) => end_with(out, line.as_str(), 0),
-        Err(_) => Ended::of(Err(StreamFault::NoMemory)),
-    }
-}
-
-/// Returns the end for a salvaged text. Its line has how many bytes of the text were salvaged.
-fn say_kept(alloc: Global, count: u64) -> Ended
-    ensures { TellsLine (line_of result) result.status (kept_line count) 0 }
-{
-    match format!(in alloc; "kept {count} bytes\n") {
-        Ok(line) => Ended::told_by(line, 0),
-        Err(_) => Ended::of(Err(StreamFault::NoMemory)),
-    }
+    end_with(out, format!(in alloc; "ok {count}\n"), 0)
 }
 
 /// Writes the journal text of the whole lines of a file, which is a journal text that may have been cut off.
@@ -152,7 +128,7 @@ fn salvage<F: Read, W: Write>(alloc: Global, file: &mut F, out: &mut W) -> Ended
     let written = write_journal(&run, out);
     drop(run);
     match written {
-        Ok(()) => say_kept(alloc, count),
+        Ok(()) => Ended::told(format!(in alloc; "kept {count} bytes\n"), 0),
         Err(fault) => Ended::of(Err(fault)),
     }
 }
@@ -169,7 +145,7 @@ fn walk<F: Read, R: Read, W: Write>(
 {
     let run = match read_run(alloc, file) {
         Ok(run) => run,
-        Err(why) => return refuse(alloc, out, why),
+        Err(why) => return end_of_refused(alloc, out, why),
     };
     let answered = debug(alloc, &run, input, out);
     drop(run);

@@ -4,7 +4,7 @@ ghost use Rattle.rw_program.specs.Lines.{line_of};
 ghost use Rattle.rw_program.specs.Threads.{RecordsBy, RecordsThreads};
 
 use crate::endings::Ended;
-use crate::files::{record, refuse, write_journal};
+use crate::files::{end_of_refused, record, write_journal};
 use crate::reading::read_script;
 use rw_console::Outcome;
 use rw_script::run_threads;
@@ -24,7 +24,7 @@ pub(crate) fn record_threads<F: Read, W: Write, R: Threads + Wait + Sync>(
 {
     let script = match read_script(alloc, file) {
         Ok(script) => script,
-        Err(why) => return refuse(alloc, out, why),
+        Err(why) => return end_of_refused(alloc, out, why),
     };
     let played = run_threads(rt, alloc, &script, &());
     drop(script);

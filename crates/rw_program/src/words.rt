@@ -10,7 +10,6 @@ use crate::endings::Ended;
 use crate::flags::{DASHES, THREADS, is_flag};
 use crate::statuses::REFUSED_WORDS;
 use crate::word_faults::{WordsFault, fault_in, fault_without_command};
-use rw_lines::StreamFault;
 use std::alloc::Global;
 
 /// What to do with a file.
@@ -185,8 +184,5 @@ pub fn read_words(words: &[String]) -> Result<Asked<'_>, WordsFault<'_>>
 pub fn refuse_words(alloc: Global, fault: &WordsFault<'_>) -> Ended
     ensures { TellsLine (line_of result) result.status (told_of fault.now) 2 }
 {
-    match fault.text(alloc) {
-        Ok(text) => Ended::told_by(text, REFUSED_WORDS),
-        Err(_) => Ended::of(Err(StreamFault::NoMemory)),
-    }
+    Ended::told(fault.text(alloc), REFUSED_WORDS)
 }

@@ -2,9 +2,10 @@
 // From crates/rw_program/src/endings.rt, with its contracts as comments. //+
 use crate::shim::String; //+
 
-//~ ghost use Rattle.std.specs.Prelude.{◌≡◌, ◌≤◌, ◌<◌, [], take, length, string_bytes, OnOk, IfErr};
+//~ ghost use Rattle.std.specs.Prelude.{◌≡◌, ◌≤◌, ◌<◌, ℕ, List, [], Err, take, length, string_bytes, OnOk, OnErr, IfOk, IfErr};
 //~ ghost use Rattle.std.specs.Io.KnownBytes.{Appends};
-//~ ghost use Rattle.rw_program.specs.Statuses.{Says, error_line_of, error_line_of_threads, error_line_of_unread, status_of};
+//~ ghost use Rattle.rw_program.specs.Files.{TellsLine};
+//~ ghost use Rattle.rw_program.specs.Statuses.{Says, Tells, error_line_of, error_line_of_threads, error_line_of_unread, status_of};
 
 use crate::source::rw_program::statuses::{
     NO_RUN, REFUSED_WORDS, error_line, error_line_of_threads, error_line_of_unread, status,
@@ -12,6 +13,7 @@ use crate::source::rw_program::statuses::{
 use crate::source::rw_console::Outcome;
 use crate::source::rw_lines::{ShortWrite, StreamFault, put};
 use crate::source::rw_script::RunFault;
+use crate::shim::alloc::AllocError;
 use crate::shim::io::Write;
 
 /// A line for standard error, which may be empty.
@@ -91,15 +93,19 @@ impl Ended {
         }
     }
 
-    /// Returns an end with this line and status.
-    pub fn told_by(line: String, status: u8) -> Ended
+    /// Returns an end with this line and status or, where memory ran out before the line was made, the end that reports that.
+    pub fn told(line: Result<String, AllocError>, status: u8) -> Ended
 //~         requires { status ≤ 5 }
-//~         ensures line { line_of result ≡ string_bytes line }
-//~         ensures status { result.status ≡ status }
+//~         ensures line { IfOk line (λ made. (line_of result ≡ string_bytes made) × (result.status ≡ status)) }
+//~         ensures memory { OnErr line (Tells (line_of result) result.status (Err StreamFault.NoMemory)) }
+//~         ensures told { (text : List ℕ) → IfOk line (λ made. string_bytes made ≡ text) → TellsLine (line_of result) result.status text status }
     {
-        Ended {
-            line: Line::Made(line),
-            status,
+        match line {
+            Ok(line) => Ended {
+                line: Line::Made(line),
+                status,
+            },
+            Err(_) => Ended::of(Err(StreamFault::NoMemory)),
         }
     }
 

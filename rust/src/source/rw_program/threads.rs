@@ -5,7 +5,7 @@
 //~ ghost use Rattle.rw_program.specs.Threads.{RecordsBy, RecordsThreads};
 
 use crate::source::rw_program::endings::Ended;
-use crate::source::rw_program::files::{record, refuse, write_journal};
+use crate::source::rw_program::files::{end_of_refused, record, write_journal};
 use crate::source::rw_program::reading::read_script;
 use crate::source::rw_console::Outcome;
 use crate::source::rw_script::run_threads;
@@ -25,7 +25,7 @@ pub(crate) fn record_threads<F: Read, W: Write, R: Threads + Wait + Sync>(
 {
     let script = match read_script(alloc, file) {
         Ok(script) => script,
-        Err(why) => return refuse(alloc, out, why),
+        Err(why) => return end_of_refused(alloc, out, why),
     };
     let played = run_threads(rt, alloc, &script, &());
     drop(script);

@@ -12,7 +12,6 @@ use crate::source::rw_program::endings::Ended;
 use crate::source::rw_program::flags::{DASHES, THREADS, is_flag};
 use crate::source::rw_program::statuses::REFUSED_WORDS;
 use crate::source::rw_program::word_faults::{WordsFault, fault_in, fault_without_command};
-use crate::source::rw_lines::StreamFault;
 use crate::shim::alloc::Global;
 
 /// What to do with a file.
@@ -187,8 +186,5 @@ pub fn read_words(words: &[String]) -> Result<Asked<'_>, WordsFault<'_>>
 pub fn refuse_words(alloc: Global, fault: &WordsFault<'_>) -> Ended
 //~     ensures { TellsLine (line_of result) result.status (told_of fault.now) 2 }
 {
-    match fault.text(alloc) {
-        Ok(text) => Ended::told_by(text, REFUSED_WORDS),
-        Err(_) => Ended::of(Err(StreamFault::NoMemory)),
-    }
+    Ended::told(fault.text(alloc), REFUSED_WORDS)
 }
