@@ -65,7 +65,7 @@ pub(crate) fn sent_on(channel: &Chan<u64>) -> u64
 }
 
 /// Returns how many handles of this kind are alive.
-fn alive_on(channel: &Chan<u64>, kind: Kind) -> u64
+pub(crate) fn alive_on(channel: &Chan<u64>, kind: Kind) -> u64
 //~     ensures { result ≡ alive_in kind (of_chan.shown channel.now) }
 {
     match channel {

@@ -69,10 +69,7 @@ impl Findings {
 //~         ensures { IsFoundIn text.now result }
     {
         let run: Run<u64> = read(alloc, text)?;
-        match Findings::of(alloc, &run) {
-            Ok(found) => Ok(found),
-            Err(_) => Err(TextFault::NoMemory),
-        }
+        Findings::of(alloc, &run).map_err(|_| TextFault::NoMemory)
     }
 
     /// Returns how many entries the run has.

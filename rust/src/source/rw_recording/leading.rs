@@ -54,16 +54,14 @@ impl Leading {
 //~         ensures fault { IfErr result (λ fault. fault ≡ WindowFault.NoMemory) }
     {
         let numbers = zeros(alloc, handles)?;
-        match Recording::open(alloc, spec) {
-            Ok(recording) => Ok(Leading {
-                recording,
-                actor,
-                clock,
-                most,
-                numbers,
-            }),
-            Err(_) => Err(WindowFault::NoMemory),
-        }
+        let recording = Recording::open(alloc, spec).map_err(|_| WindowFault::NoMemory)?;
+        Ok(Leading {
+            recording,
+            actor,
+            clock,
+            most,
+            numbers,
+        })
     }
 
     /// Makes a call, unless it has as many as it may have: then it is unlike any channel that was counted.

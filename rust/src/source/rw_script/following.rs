@@ -43,9 +43,7 @@ fn follow(alloc: Global, steps: &[ScriptStep], pass: &Pass<u64>) -> Result<(), R
     let mut made = Vec::new(alloc);
     let mut number = 0;
     'each_step: for step in steps {
-        let Some((next, handle)) = moved(pass, number, step, &made) else {
-            return Err(RunFault::Strayed);
-        };
+        let (next, handle) = moved(pass, number, step, &made).ok_or(RunFault::Strayed)?;
         push_handle(&mut made, step.binds, handle)?;
         number = next;
     }

@@ -2,8 +2,8 @@
 // From crates/rw_script/src/names.rt, with its contracts as comments. //+
 use crate::shim::{SliceExt, Vec}; //+
 
-//~ ghost use Rattle.std.specs.Prelude.{◌≡◌, ◌<◌, ◌==◌, ◌&&◌, [], ◌∷◌, ◌++◌, false, length, option_map, IfSome, OnOk, OnErr};
-//~ ghost use Rattle.rw_script.specs.StepLines.{is_bound_again, is_bound, number_of, with_bound};
+//~ ghost use Rattle.std.specs.Prelude.{◌≡◌, ◌<◌, ◌==◌, ◌&&◌, [], false, length, option_map, IfSome, OnOk, OnErr};
+//~ ghost use Rattle.rw_script.specs.StepLines.{is_bound_again, number_of, with_bound};
 
 use crate::shim::indexmap::IndexMap;
 use crate::source::rw_law::NoMemory;
@@ -63,32 +63,14 @@ impl Names {
         }
     }
 
-    /// Whether any actor bound the name on any channel.
-    fn is_bound(&self, name: &[u8]) -> bool
-//~         ensures { result ≡ is_bound self.now name.now }
-    {
-        self.bindings.contains_key(name)
-    }
-
     /// Whether the name that a line binds was bound before.
     pub(crate) fn is_bound_again(&self, bound: Option<&[u8]>) -> bool
 //~         ensures { result ≡ is_bound_again self.now (option_map (λ n. n.now) bound.entry) }
     {
         match bound {
             None => false,
-            Some(name) => self.is_bound(name),
+            Some(name) => self.bindings.contains_key(name),
         }
-    }
-
-    /// Adds a name that isn't bound yet.
-    fn add(&mut self, alloc: Global, name: &[u8], binding: Binding) -> Result<(), NoMemory>
-//~         requires { is_bound self.old name.now ≡ false }
-//~         ensures ok { OnOk result (self.new ≡ self.old ++ record { name = name.now; actor = binding.actor; channel = binding.channel } ∷ []) }
-//~         ensures err { OnErr result (self.new ≡ self.old) }
-    {
-        let name = name./*~to_vec~*//*+*/try_to_vec/*+*/(alloc)?;
-        self.bindings.insert(name, binding)?;
-        Ok(())
     }
 
     /// Binds the name of a line, if the line binds one. The name isn't bound yet. On an error nothing has changed.
@@ -103,9 +85,11 @@ impl Names {
 //~         ensures ok { OnOk result (self.new ≡ with_bound self.old actor channel (option_map (λ n. n.now) bound.entry)) }
 //~         ensures err { OnErr result (self.new ≡ self.old) }
     {
-        match bound {
-            None => Ok(()),
-            Some(name) => self.add(alloc, name, Binding { actor, channel }),
-        }
+        let Some(name) = bound else {
+            return Ok(());
+        };
+        let name = name./*~to_vec~*//*+*/try_to_vec/*+*/(alloc)?;
+        self.bindings.insert(name, Binding { actor, channel })?;
+        Ok(())
     }
 }

@@ -184,10 +184,7 @@ impl ScriptReader {
         if self.specs.len() >= MOST_CHANNELS {
             return Err(ScriptFaultKind::TooManyChannels);
         }
-        let Ok(()) = self.specs.push(spec) else {
-            return Err(ScriptFaultKind::NoMemory);
-        };
-        Ok(())
+        self.specs.push(spec).map_err(|_| ScriptFaultKind::NoMemory)
     }
 
     /// Reads a step line.
@@ -197,9 +194,7 @@ impl ScriptReader {
 //~         ensures unchanged { OnErr result (self.new ≡ self.old) }
 //~         ensures lines { self.new.lines ≡ self.old.lines }
     {
-        let Some((actor, channel, word, rest)) = fields_of(line) else {
-            return Err(ScriptFaultKind::Syntax);
-        };
+        let (actor, channel, word, rest) = fields_of(line).ok_or(ScriptFaultKind::Syntax)?;
         let kind = self.kind_for(actor, channel)?;
         let said = read_said(kind, word, rest)?;
         let target = self.target_of(actor as u32, channel as u32, said.target)?;
@@ -266,13 +261,11 @@ impl ScriptReader {
         if self.steps.len() >= MOST_STEPS {
             return Err(ScriptFaultKind::TooManySteps);
         }
-        let Ok(()) = self.steps.reserve(1) else {
-            return Err(ScriptFaultKind::NoMemory);
-        };
-        let alloc = self.alloc;
-        let Ok(()) = self.names.bind(alloc, said.bound, actor, channel) else {
-            return Err(ScriptFaultKind::NoMemory);
-        };
+        self.steps
+            .reserve(1)
+            .map_err(|_| ScriptFaultKind::NoMemory)?;
+        let bound = self.names.bind(self.alloc, said.bound, actor, channel);
+        bound.map_err(|_| ScriptFaultKind::NoMemory)?;
         self.steps.push_reserved(ScriptStep {
             line: self.lines,
             actor,

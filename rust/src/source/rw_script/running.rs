@@ -117,13 +117,7 @@ fn run_book<M: Reversible<Call = RowCall<ChanCall<u64>>, Reply = ChanReply<u64>>
 //~     ensures waits { IfOk result (λ ran. ran.1 ≡ (run_of script.now).waits) }
 {
     let mut book = Book::open(alloc, start)?;
-    let waits = match run_steps(alloc, &mut book, script) {
-        Ok(waits) => waits,
-        Err(NoMemory) => {
-            drop(book);
-            return Err(NoMemory);
-        }
-    };
+    let waits = run_steps(alloc, &mut book, script)?;
     book.book_law();
     journal_of_an_interleaving::<M>();
     Ok((book, waits))
@@ -152,19 +146,11 @@ pub fn play(alloc: Global, script: &Script) -> Result<Played, NoMemory>
     let specs = script.specs()./*~to_vec~*//*+*/try_to_vec/*+*/(alloc)?;
     let world = match open(alloc, script.specs()) {
         Ok(world) => world,
-        Err(OpenFault::NoMemory) => {
-            drop(specs);
-            return Err(NoMemory);
-        }
+        Err(OpenFault::NoMemory) => return Err(NoMemory),
         Err(_) => unreachable!(),
     };
-    match run_book(alloc, world, script) {
-        Ok((book, waits)) => Ok(Played { specs, book, waits }),
-        Err(NoMemory) => {
-            drop(specs);
-            Err(NoMemory)
-        }
-    }
+    let (book, waits) = run_book(alloc, world, script)?;
+    Ok(Played { specs, book, waits })
 }
 
 /// Like `play`, but returns a run instead of a book.

@@ -6,7 +6,7 @@
 //~ ghost use Rattle.rw_lines.specs.Cut.{lacks};
 //~ ghost use Rattle.rw_words.specs.Arguments.{rest_text};
 //~ ghost use Rattle.rw_script.specs.Fields.{bound_in, fields_in, handle_text, name_in, number_field, without_binding};
-//~ ghost use Rattle.rw_script.specs.Script.{head_in, head_with};
+//~ ghost use Rattle.rw_script.specs.Script.{head_in};
 //~ ghost use Rattle.rw_script.specs.StepLines.{said_by, said_in, said_of};
 //~ ghost use Rattle.rw_words.specs.Words.{map_ok};
 
@@ -27,9 +27,13 @@ pub(crate) enum HeadLine {
 }
 
 impl HeadLine {
-    fn with(word: &[u8], number: u64) -> Option<HeadLine>
-//~         ensures { result ≡ head_with word.now number }
+    /// Parses a line at the head.
+//~     #[tactic(auto, unfolding(crate::specs::Script::head_in))]
+    pub(crate) fn of(line: &[u8]) -> Option<HeadLine>
+//~         ensures { result ≡ head_in line.now }
     {
+        let (word, text) = cut(line, b' ')?;
+        let number = numeral(text)?;
         if word == b"broadcast".as_slice() {
             Some(HeadLine::Broadcast(number))
         } else if word == b"watch".as_slice() {
@@ -39,15 +43,6 @@ impl HeadLine {
         } else {
             None
         }
-    }
-
-    /// Parses a line at the head.
-//~     #[tactic(auto, unfolding(crate::specs::Script::head_in))]
-    pub(crate) fn of(line: &[u8]) -> Option<HeadLine>
-//~         ensures { result ≡ head_in line.now }
-    {
-        let (word, number) = cut(line, b' ')?;
-        HeadLine::with(word, numeral(number)?)
     }
 }
 

@@ -53,10 +53,7 @@ impl Script {
             if is_mark(line) {
                 return reader.finish();
             }
-            if let Err(fault) = reader.read_line(line) {
-                drop(reader);
-                return Err(fault);
-            }
+            reader.read_line(line)?;
             rest = more;
         }
         reader.finish()

@@ -177,15 +177,8 @@ fn play_all<D: Calls + Sync, G: Gate + Sync, R: Threads + Wait + Sync>(
     steps: &[ScriptStep],
     passes: Vec<Pass<u64>>,
 ) -> Result<Vec<Pass<u64>>, RunFault> {
-    let Ok(mut back) = Vec::with_capacity(alloc, passes.len()) else {
-        drop(passes);
-        return Err(RunFault::NoMemory);
-    };
-    let Ok(mut threads) = Vec::with_capacity(alloc, passes.len()) else {
-        drop(passes);
-        drop(back);
-        return Err(RunFault::NoMemory);
-    };
+    let mut back = Vec::with_capacity(alloc, passes.len()).map_err(|_| RunFault::NoMemory)?;
+    let mut threads = Vec::with_capacity(alloc, passes.len()).map_err(|_| RunFault::NoMemory)?;
     let latch = StartLatch::new();
     let signal = &latch;
     // This remains the result unless all threads are started.
@@ -203,21 +196,8 @@ fn play_all<D: Calls + Sync, G: Gate + Sync, R: Threads + Wait + Sync>(
             played = joined;
         }
     });
-    match played {
-        Ok(()) => Ok(back),
-        Err(fault) => {
-            drop(back);
-            Err(fault)
-        }
-    }
-}
-
-/// Returns the script's fault for a fault of closing the desk.
-fn fault_of(fault: CloseFault) -> RunFault {
-    match fault {
-        CloseFault::NoMemory => RunFault::NoMemory,
-        _ => RunFault::Strayed,
-    }
+    played?;
+    Ok(back)
 }
 
 /// Closes the desk, and returns its run.
@@ -231,7 +211,10 @@ fn close(alloc: Global, desk: Desk<u64>, passes: Vec<Pass<u64>>) -> Result<Run<u
         Err((fault, desk, passes)) => {
             drop(desk);
             drop(passes);
-            Err(fault_of(fault))
+            match fault {
+                CloseFault::NoMemory => Err(RunFault::NoMemory),
+                _ => Err(RunFault::Strayed),
+            }
         }
     }
 }
@@ -259,14 +242,9 @@ fn played(
 //~     requires actors { desk.actors ≡ script.now.actors }
 //~     ensures { IfOk result (IsRunOf script.now) }
 {
-    if let Err(fault) = follow_all(alloc, script.steps(), &passes) {
-        drop(desk);
-        drop(passes);
-        return Err(fault);
-    }
+    follow_all(alloc, script.steps(), &passes)?;
     let run = close(alloc, desk, passes)?;
     if !are_of(run.entries(), script.actors()) {
-        drop(run);
         return Err(RunFault::Strayed);
     }
     Ok(run)
@@ -292,15 +270,8 @@ pub fn run_threads<G: Gate + Sync, R: Threads + Wait + Sync>(
     };
     drop(ends);
     let shared = Shared { desk };
-    let back = play_all(rt, alloc, &shared, gate, script.steps(), passes);
-    let Shared { desk } = shared;
-    match back {
-        Ok(passes) => played(alloc, script, desk, passes),
-        Err(fault) => {
-            drop(desk);
-            Err(fault)
-        }
-    }
+    let passes = play_all(rt, alloc, &shared, gate, script.steps(), passes)?;
+    played(alloc, script, shared.desk, passes)
 }
 impl core::fmt::Display for RunFault { //+
     fn fmt(&self, f: &mut core::fmt::Formatter<'_>) -> core::fmt::Result { //+
