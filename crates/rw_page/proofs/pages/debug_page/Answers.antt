@@ -23,5 +23,5 @@ within_fault journal fault limit commands other is =
     subst (λ (r : Result (Run ℕ) TextFault). IsWithin limit (page_report r) commands) (sym (said_fault fault (reading_of numbers journal) other is))
     (inr (record { first = []; rest = commands; parts = refl; few = omega arith; decided = λ more. refl }))
 
-pub returns-in-Ok-fault_page-clause-limit : goal.returns-in-Ok-fault_page-clause-limit
-returns-in-Ok-fault_page-clause-limit c = within_fault _ c.in-Err.fault _ _ (search rules) c.in-Err.ensures.exact
+pub returns-in_ok-fault_page-clause-limit : goal.returns-in_ok-fault_page-clause-limit
+returns-in_ok-fault_page-clause-limit c = within_fault _ c.in-Err.fault _ _ (search rules) c.in-Err.ensures.exact
