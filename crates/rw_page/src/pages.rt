@@ -29,12 +29,7 @@ pub fn debug_page(alloc: Global, journal: &[u8], commands: &[u8]) -> Result<Vec<
     let run = match rw_text::read(alloc, journal) {
         Ok(run) => run,
         Err(TextFault::NoMemory) => return Err(StreamFault::NoMemory),
-        Err(fault) => {
-            return match fault_page(alloc, fault) {
-                Ok(line) => Ok(line),
-                Err(NoMemory) => Err(StreamFault::NoMemory),
-            };
-        }
+        Err(fault) => return Ok(fault_page(alloc, fault)?),
     };
     let mut text = Vec::new(alloc);
     let mut input = commands;

@@ -1,5 +1,5 @@
 -- Runs over files.
-use Rattle.std.proofs.Common.{◌≡◌, ◌≢◌, ◌<◌, ◌≤◌, ◌++◌, ℕ, List, [], Option, None, Some, Result, Ok, Err, inl}
+use Rattle.std.proofs.Common.{◌≡◌, ◌<◌, ◌≤◌, ◌++◌, ℕ, List, [], Option, None, Some, Result, Ok, Err, inl}
 use Rattle.std.proofs.Common.{inr, refl, sym, ap, subst, ◌∙◌, codes, length, arith, lit<}
 use Rattle.std.specs.Io.KnownBytes.{Appends, Consumes, IsAtEnd, Keeps}
 use Rattle.std.proofs.lemmas.List.{append-nil, length-append}
@@ -16,7 +16,7 @@ use Rattle.rw_script.specs.Faults.{Gives}
 use Rattle.rw_script.specs.Script.{Script, script_in}
 use Rattle.rw_law.specs.Numbers.{numbers}
 use Rattle.rw_text.specs.declared.faults.TextFault.{TextFault}
-use Rattle.rw_text.specs.declared.faults.TextFault.TheVariants as text_fault
+use Rattle.rw_text.proofs.Finishing.{said_fault}
 use Rattle.rw_text.specs.Faults.{text_fault_line}
 use Rattle.rw_text.specs.Reading.{Finishes}
 use Rattle.rw_text.specs.Salvaging.{salvage_of}
@@ -39,15 +39,6 @@ no_script file file' bytes read ended few fault given (file_fault.Stream why) (m
 no_script file file' bytes read ended few fault (inl said) (file_fault.Script why) (other, same) = (bytes, read, ended, few, said ∙ ap (λ x. Err x) (sym same))
 no_script file file' bytes read ended few fault (inr memory) (file_fault.Script why) (other, same) = absurd (other memory)
 no_script file file' bytes read ended few fault given (file_fault.Text why) none = absurd none
-
--- the fault that is returned is that of the text, unless memory ran out
-said_fault : {X : Type 0} (fault : TextFault) (said : Result X TextFault) → fault ≢ text_fault.NoMemory → Finishes (Err fault) said → said ≡ Err fault
-said_fault (text_fault.Malformed line) said other is = is
-said_fault (text_fault.LimitExceeded line) said other is = is
-said_fault (text_fault.WrongOrder line) said other is = is
-said_fault (text_fault.WrongReply line) said other is = is
-said_fault text_fault.Truncated said other is = is
-said_fault text_fault.NoMemory said other is = absurd (other refl)
 
 pub no_text : {X : Type 0} (text_of : List ℕ → Result X TextFault) (file file' : Option (List ℕ)) (bytes : List ℕ) → Consumes file file' bytes
     → IsAtEnd file' → length bytes ≤ MOST_BYTES

@@ -50,23 +50,26 @@ returns-then-byte-eq10-clause-ok g c =
 pub returns-then-byte-eq10-clause-few : goal.returns-then-byte-eq10-clause-few
 returns-then-byte-eq10-clause-few g c = omega (arith, few_of_part c.each_byte.invariant.0 c.each_byte.invariant.1)
 
-pub returns-then-is_err-clause-few : goal.returns-then-is_err-clause-few
-returns-then-is_err-clause-few g c = omega (arith, few_of_part c.each_byte.invariant.0 c.each_byte.invariant.1)
+pub returns-in_err-push-clause-few : goal.returns-in_err-push-clause-few
+returns-in_err-push-clause-few g c = omega (arith, few_of_part c.each_byte.invariant.0 c.each_byte.invariant.1)
 
-pub returns-then-is_err-clause-kept : goal.returns-then-is_err-clause-kept
-returns-then-is_err-clause-kept g c = grind (arith, kept_of_part c.each_byte.invariant.0, c.each_byte.invariant.1, common_steps)
+pub returns-in_err-push-clause-kept : goal.returns-in_err-push-clause-kept
+returns-in_err-push-clause-kept g c =
+    let p = err_from_is_err_and c.from_residual-in_err-push.result c.from_residual-in_err-push.ensures.1 in
+    rw (p.1, p.2) (grind (arith, kept_of_part c.each_byte.invariant.0, c.each_byte.invariant.1, common_steps))
 
-pub returns-then-is_err-clause-err : goal.returns-then-is_err-clause-err
-returns-then-is_err-clause-err g c =
+pub returns-in_err-push-clause-err : goal.returns-in_err-push-clause-err
+returns-in_err-push-clause-err g c =
+    let e = err_from_is_err_and c.from_residual-in_err-push.result c.from_residual-in_err-push.ensures.1 in
     let p = c.each_byte.invariant.0 in
-    record {
+    rw (e.1, e.2) (record {
       text = p.text ++ c.in-Some.byte ∷ [];
       read = Consumes-then _ _ _ _ _ p.read (rw c.in-Some.is at c.in_ok-byte.ensures.byte);
       why = (
         lacks-append 10 p.text (c.in-Some.byte ∷ []) p.unbroken (lacks_one 10 c.in-Some.byte c.if-byte-eq10.false),
         omega (arith, length_push p.text c.in-Some.byte, p.count),
       );
-    }
+    })
 
 pub returns-then-len-gt-LONGEST_LINE-clause-few : goal.returns-then-len-gt-LONGEST_LINE-clause-few
 returns-then-len-gt-LONGEST_LINE-clause-few g c = omega (arith, few_of_part c.each_byte.invariant.0 c.each_byte.invariant.1)
