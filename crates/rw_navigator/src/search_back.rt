@@ -1,6 +1,6 @@
 //! The search towards the start.
 
-ghost use Rattle.std.specs.Prelude.{ℕ, Bool, IsTrue, unwrap_or, IfSome, not, ◌&&◌, ◌≡◌, ◌<◌, ◌≤◌, ◌-◌, ◌*◌};
+ghost use Rattle.std.specs.Prelude.{Bool, IsTrue, unwrap_or, IfSome, ◌≡◌, ◌<◌, ◌≤◌, ◌-◌};
 ghost use Rattle.rw_navigator.specs.Navigator.{start_of, MovedTo};
 ghost use Rattle.rw_navigator.specs.Moves.{distance_between};
 ghost use Rattle.rw_navigator.specs.Search.{hit, step_hit, state_hit, last_below, most_below, TestsView, SearchedTo};

@@ -1,6 +1,6 @@
 //! The numbers that a channel's handles have in the journal of its window.
 
-ghost use Rattle.std.specs.Prelude.{◌≡◌, ◌≤◌, ◌<◌, ◌^◌, ℕ, Some, true, length, slice_index, IfOk, IfSome, IfNone};
+ghost use Rattle.std.specs.Prelude.{◌≡◌, ◌≤◌, ◌<◌, ◌^◌, Some, true, length, IfOk, IfSome, IfNone};
 ghost use Rattle.rw_recording.specs.Goals.{AreNumbered, HasEach};
 ghost use Rattle.rw_recording.specs.Windows.{number_of};
 

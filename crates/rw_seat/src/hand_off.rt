@@ -1,6 +1,6 @@
 //! The hand-off: one book that seats acquire in turn.
 
-ghost use Rattle.std.specs.Prelude.{◌≡◌, ◌<◌, ◌≤◌, ◌∷◌, [], ℕ, Some, length, map, slice_get, vec_capacity, IfOk, All};
+ghost use Rattle.std.specs.Prelude.{◌≡◌, ◌<◌, ◌≤◌, ◌∷◌, [], Some, map, vec_capacity, IfOk, All};
 ghost use Rattle.rw_law.specs.declared.limits.TheConstants.{MOST_ACTORS};
 ghost use Rattle.rw_seat.specs.Journals.{IsQuiet};
 ghost use Rattle.rw_seat.specs.Rule.{numbers_from, resting};
