@@ -2,7 +2,7 @@
 // From crates/rw_blocks/src/json.rt, with its contracts as comments. //+
 use crate::shim::{SliceExt, String, Vec}; //+
 
-//~ ghost use Rattle.std.specs.Prelude.{◌≡◌, ◌++◌, ◌∷◌, [], codes, length, map, option_map, option_to_list, IfOk, OnOk};
+//~ ghost use Rattle.std.specs.Prelude.{◌≡◌, ◌++◌, [], codes, length, map, option_map, option_to_list, IfOk, OnOk};
 //~ ghost use Rattle.serde_json.specs.Data.{object};
 //~ ghost use Rattle.serde_json.specs.View.{view, members_view};
 //~ ghost use Rattle.rw_blocks.specs.Json.{broadcast_json, broadcast_with, channel_json, json_text, receiver_json, receivers_json};

@@ -26,9 +26,7 @@ fn write_step<W: Write>(
 //~     ensures err { IfErr result (StopsWriting (W.contents writer.old) (W.contents writer.new) (output_of walk.now.run place Command.Step)) }
 {
     out.clear();
-    if walk.push_step(place, out).is_err() {
-        return Err(StreamFault::NoMemory);
-    }
+    walk.push_step(place, out)?;
     put_out(writer, out)
 }
 
@@ -63,9 +61,7 @@ fn write_answer<W: Write>(
         return write_entries(walk, writer, out);
     }
     out.clear();
-    if walk.answer(command, out).is_err() {
-        return Err(StreamFault::NoMemory);
-    }
+    walk.answer(command, out)?;
     put_out(writer, out)
 }
 

@@ -28,9 +28,7 @@ pub fn debug<R: Read, W: Write>(
 //~     ensures err { IfErr result (Stops (R.remaining reader.old) (R.remaining reader.new) (W.contents writer.old) (W.contents writer.new)
 //~         (commands_report run.now (last_place run.now)) Always MOST_BYTES) }
 {
-    let Ok(mut walk) = Walk::open(alloc, run) else {
-        return Err(StreamFault::NoMemory);
-    };
+    let mut walk = Walk::open(alloc, run)?;
     let answered = debug_again(alloc, &mut walk, reader, writer);
     drop(walk);
     answered

@@ -39,9 +39,7 @@ fn refuse<W: Write>(alloc: Global, writer: &mut W, fault: ScriptFault) -> Result
 //~     ensures ok { OnOk result (Appends (W.contents writer.old) (W.contents writer.new) (fault_line fault)) }
 //~     ensures err { IfErr result (StopsWriting (W.contents writer.old) (W.contents writer.new) (fault_line fault)) }
 {
-    let Ok(line) = fault_line(alloc, fault) else {
-        return Err(StreamFault::NoMemory);
-    };
+    let line = fault_line(alloc, fault)?;
     put_whole(writer, line.as_bytes())
 }
 
@@ -57,9 +55,7 @@ fn say_waiting<W: Write>(
     let Some(number) = waits else {
         return Ok(());
     };
-    let Ok(line) = waiting_line(alloc, number) else {
-        return Err(StreamFault::NoMemory);
-    };
+    let line = waiting_line(alloc, number)?;
     put_whole(writer, line.as_bytes())
 }
 
@@ -78,9 +74,7 @@ fn begin<W: Write>(
 {
     let played = play(alloc, &script);
     drop(script);
-    let Ok(Played { specs, book, waits }) = played else {
-        return Err(StreamFault::NoMemory);
-    };
+    let Played { specs, book, waits } = played?;
     let walk = Walk::at_end(alloc, Debugger::of_book(specs, book));
     match say_waiting(alloc, writer, waits) {
         Ok(()) => Ok((walk, waits)),

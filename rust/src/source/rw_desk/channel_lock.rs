@@ -2,7 +2,7 @@
 // From crates/rw_desk/src/channel_lock.rt, with its contracts as comments. //+
 use crate::shim::Vec; //+
 
-//~ ghost use Rattle.std.specs.Prelude.{◌≡◌, false, not, Some, IfErr, OnErr, IfOk, IsErrOf};
+//~ ghost use Rattle.std.specs.Prelude.{◌≡◌, false, Some, IfErr, OnErr, IfOk, IsErrOf};
 //~ ghost use Rattle.std.specs.Fn.{FnOnceReturnsAtMut};
 //~ ghost use Rattle.rw_world.specs.Channel.{strays_at};
 //~ ghost use Rattle.rw_world.specs.declared.kinds.ChannelKind.TheVariants as kind;

@@ -1,7 +1,7 @@
 //! The machine of one channel, which follows the places of a run.
 // From crates/rw_findings/src/following.rt, with its contracts as comments. //+
 
-//~ ghost use Rattle.std.specs.Prelude.{◌≡◌, ◌+◌, ◌<◌, ◌≤◌, IfOk, length};
+//~ ghost use Rattle.std.specs.Prelude.{◌+◌, ◌<◌, ◌≤◌, IfOk, length};
 //~ ghost use Rattle.rw_findings.specs.Following.{Stands};
 //~ ghost use Rattle.rw_navigator.specs.Places.{last_place};
 

@@ -4,7 +4,7 @@
 //! gives the state before it, and a call that is refused changes nothing.
 //! Start reading at the trait in `machine.rt`, and then at `specs/Journal.antt`, which defines the state at a place of a
 //! list of recorded steps, and which of these lists are legal.
-//! What stands on it: `rw_handles`, `rw_ring`.
+//! What stands on it: `rw_handles`, `rw_lines`, `rw_ring`.
 //~ #![tactic(auto)]
 // From crates/rw_law/src/lib.rt, with its contracts as comments. //+
 

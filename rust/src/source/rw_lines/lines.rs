@@ -69,9 +69,7 @@ pub fn next_short_line<R: Read>(
         if byte == b'\n' {
             return Ok(NextShort::Line);
         }
-        if line.push(byte).is_err() {
-            return Err(StreamFault::NoMemory);
-        }
+        line.push(byte)?;
         if line.len() > LONGEST_LINE {
             return Ok(NextShort::TooLong);
         }

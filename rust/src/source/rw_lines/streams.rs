@@ -7,6 +7,8 @@
 //~ ghost use Rattle.std.specs.Io.KnownBytes.{Keeps, Appends, Consumes, IsAtEnd};
 //~ ghost use Rattle.rw_lines.specs.Writing.{StopsWriting};
 
+use crate::source::rw_law::NoMemory;
+use crate::shim::alloc::{AllocError, AllocFailed};
 use crate::shim::io;
 //~ use thiserror::Error;
 
@@ -25,6 +27,39 @@ pub enum StreamFault {
     /// An allocation failed.
 //~     #[error("no memory")]
     NoMemory,
+}
+
+impl From<NoMemory> for StreamFault {
+//~     ghost use Rattle.std.specs.Prelude.{◌≡◌};
+//~     ghost use Rattle.rw_lines.specs.declared.streams.StreamFault.{StreamFault};
+
+//~     ghost from_gives = { λ _ fault. fault ≡ StreamFault.NoMemory };
+
+    fn from(_error: NoMemory) -> StreamFault {
+        StreamFault::NoMemory
+    }
+}
+
+impl From<AllocError> for StreamFault {
+//~     ghost use Rattle.std.specs.Prelude.{◌≡◌};
+//~     ghost use Rattle.rw_lines.specs.declared.streams.StreamFault.{StreamFault};
+
+//~     ghost from_gives = { λ _ fault. fault ≡ StreamFault.NoMemory };
+
+    fn from(_error: AllocError) -> StreamFault {
+        StreamFault::NoMemory
+    }
+}
+
+impl<T/*~: Drop~*/> From<AllocFailed<T>> for StreamFault {
+//~     ghost use Rattle.std.specs.Prelude.{◌≡◌};
+//~     ghost use Rattle.rw_lines.specs.declared.streams.StreamFault.{StreamFault};
+
+//~     ghost from_gives = { λ _ fault. fault ≡ StreamFault.NoMemory };
+
+    fn from(_error: AllocFailed<T>) -> StreamFault {
+        StreamFault::NoMemory
+    }
 }
 
 /// A writer failed, or wrote no byte, after it had written this many.

@@ -1,7 +1,7 @@
 //! The search towards the start.
 // From crates/rw_navigator/src/search_back.rt, with its contracts as comments. //+
 
-//~ ghost use Rattle.std.specs.Prelude.{ℕ, Bool, IsTrue, unwrap_or, IfSome, not, ◌&&◌, ◌≡◌, ◌<◌, ◌≤◌, ◌-◌, ◌*◌};
+//~ ghost use Rattle.std.specs.Prelude.{Bool, IsTrue, unwrap_or, IfSome, ◌≡◌, ◌<◌, ◌≤◌, ◌-◌};
 //~ ghost use Rattle.rw_navigator.specs.Navigator.{start_of, MovedTo};
 //~ ghost use Rattle.rw_navigator.specs.Moves.{distance_between};
 //~ ghost use Rattle.rw_navigator.specs.Search.{hit, step_hit, state_hit, last_below, most_below, TestsView, SearchedTo};

@@ -1,7 +1,7 @@
 //! The search towards the end.
 // From crates/rw_navigator/src/search_forward.rt, with its contracts as comments. //+
 
-//~ ghost use Rattle.std.specs.Prelude.{ℕ, Bool, IsTrue, unwrap_or, IfSome, length, ◌≡◌, ◌<◌, ◌≤◌, ◌-◌, ◌*◌};
+//~ ghost use Rattle.std.specs.Prelude.{Bool, IsTrue, unwrap_or, IfSome, length, ◌≡◌, ◌<◌, ◌≤◌, ◌-◌};
 //~ ghost use Rattle.rw_navigator.specs.Navigator.{start_of, MovedTo};
 //~ ghost use Rattle.rw_navigator.specs.Moves.{distance_between};
 //~ ghost use Rattle.rw_navigator.specs.Search.{hit, step_hit, state_hit, first_above, most_above, TestsView, SearchedTo};

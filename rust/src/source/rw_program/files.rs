@@ -3,7 +3,7 @@
 use crate::shim::{String, format}; //+
 
 //~ ghost use Rattle.std.specs.Prelude.{◌≡◌, ◌≤◌, ◌<◌, ℕ, List, [], length, string_bytes, IfErr, IfOk, OnOk};
-//~ ghost use Rattle.std.specs.Io.KnownBytes.{Appends, Keeps};
+//~ ghost use Rattle.std.specs.Io.KnownBytes.{Appends};
 //~ ghost use Rattle.rw_lines.specs.Writing.{WritesPrefix};
 //~ ghost use Rattle.rw_law.specs.Numbers.{numbers};
 //~ ghost use Rattle.rw_text.specs.Texts.{text};

@@ -33,8 +33,6 @@ pub fn read_whole<R: Read>(alloc: Global, reader: &mut R) -> Result<Vec<u8>, Str
         if bytes.len() as u64 + taken as u64 > MOST_BYTES {
             return Err(StreamFault::TooMuch);
         }
-        if bytes.extend_from_slice(&piece[..taken]).is_err() {
-            return Err(StreamFault::NoMemory);
-        }
+        bytes.extend_from_slice(&piece[..taken])?;
     }
 }

@@ -2,7 +2,7 @@
 // From crates/rw_recording/src/numbering.rt, with its contracts as comments. //+
 use crate::shim::Vec; //+
 
-//~ ghost use Rattle.std.specs.Prelude.{◌≡◌, ◌≤◌, ◌<◌, ◌^◌, ℕ, Some, true, length, slice_index, IfOk, IfSome, IfNone};
+//~ ghost use Rattle.std.specs.Prelude.{◌≡◌, ◌≤◌, ◌<◌, ◌^◌, Some, true, length, IfOk, IfSome, IfNone};
 //~ ghost use Rattle.rw_recording.specs.Goals.{AreNumbered, HasEach};
 //~ ghost use Rattle.rw_recording.specs.Windows.{number_of};
 

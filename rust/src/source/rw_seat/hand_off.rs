@@ -2,7 +2,7 @@
 // From crates/rw_seat/src/hand_off.rt, with its contracts as comments. //+
 use crate::shim::Vec; //+
 
-//~ ghost use Rattle.std.specs.Prelude.{◌≡◌, ◌<◌, ◌≤◌, ◌∷◌, [], ℕ, Some, length, map, slice_get, vec_capacity, IfOk, All};
+//~ ghost use Rattle.std.specs.Prelude.{◌≡◌, ◌<◌, ◌≤◌, ◌∷◌, [], Some, map, vec_capacity, IfOk, All};
 //~ ghost use Rattle.rw_law.specs.declared.limits.TheConstants.{MOST_ACTORS};
 //~ ghost use Rattle.rw_seat.specs.Journals.{IsQuiet};
 //~ ghost use Rattle.rw_seat.specs.Rule.{numbers_from, resting};

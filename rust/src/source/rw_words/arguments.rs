@@ -3,7 +3,6 @@
 
 //~ ghost use Rattle.std.specs.Prelude.{◌≡◌, ◌++◌, ⊤, Some, option_map, true};
 //~ ghost use Rattle.rw_lines.specs.Cut.{cut, lacks};
-//~ ghost use Rattle.rw_lines.specs.Numerals.{numeral_in};
 //~ ghost use Rattle.rw_words.specs.Arguments.{flag_named, rest_text, value_named};
 //~ ghost use Rattle.rw_words.specs.Words.{when_alone, flag_in, handle_in, handle_value_flag_in, handle_value_in};
 //~ ghost use Rattle.rw_words.specs.Words.{handle_within, first_part, number_in, rest_of, value_in};

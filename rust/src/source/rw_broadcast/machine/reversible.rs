@@ -1,6 +1,6 @@
 //! A broadcast channel as a machine whose steps can be undone.
 // From crates/rw_broadcast/src/machine/reversible.rt, with its contracts as comments. //+
-//~ ghost use Rattle.std.specs.Prelude.{◌≡◌, ◌<◌, ◌≤◌};
+//~ ghost use Rattle.std.specs.Prelude.{◌≡◌, ◌<◌};
 //~ ghost use Rattle.rw_broadcast.specs.Shown.{weight, next, reply_of, patch_of};
 //~ ghost use Rattle.rw_broadcast.specs.Laws.{IsDocumented};
 

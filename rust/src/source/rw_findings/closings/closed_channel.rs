@@ -2,9 +2,9 @@
 // From crates/rw_findings/src/closings/closed_channel.rt, with its contracts as comments. //+
 use crate::shim::Vec; //+
 
-//~ ghost use Rattle.std.specs.Prelude.{◌≡◌, ◌≤◌, ◌<◌, ◌^◌, ℕ, IfOk, Option, length, option_map, slice_get, slice_index_or, slice_set};
+//~ ghost use Rattle.std.specs.Prelude.{◌≡◌, ◌<◌, IfOk, Option, length, slice_get, slice_set};
 //~ ghost use Rattle.rw_findings.specs.Closings.{is_there};
-//~ ghost use Rattle.rw_findings.specs.LateReaders.{after_receipt, after_told, closed_now, made_by, new_reader, reader_in, ReadersHaveRoom, with_change};
+//~ ghost use Rattle.rw_findings.specs.LateReaders.{after_receipt, after_told, closed_now, made_by, reader_in, ReadersHaveRoom, with_change};
 
 use crate::source::rw_law::{NoMemory, Reversible};
 use crate::source::rw_navigator::{lag_at, seen_at};

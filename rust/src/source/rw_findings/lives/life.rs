@@ -2,7 +2,7 @@
 // From crates/rw_findings/src/lives/life.rt, with its contracts as comments. //+
 use crate::shim::Vec; //+
 
-//~ ghost use Rattle.std.specs.Prelude.{◌≡◌, ◌+◌, ◌<◌, ◌^◌, ℕ, None, OnOk, IsSome, slice_index_or};
+//~ ghost use Rattle.std.specs.Prelude.{◌≡◌, ◌+◌, ◌<◌, ◌^◌, None, OnOk, slice_index_or};
 //~ ghost use Rattle.rw_findings.specs.Lives.{Counted, born, with_kind};
 
 use crate::source::rw_handles::Kind;

@@ -4,7 +4,6 @@ use crate::shim::Vec; //+
 
 //~ ghost use Rattle.std.specs.Prelude.{◌≡◌, ◌≤◌, ◌+◌, IfOk, OnOk, None, false, length, option_map};
 //~ ghost use Rattle.rw_handles.specs.declared.table.TheConstants.{MOST_HANDLES};
-//~ ghost use Rattle.rw_world.specs.Lists.{Each};
 //~ ghost use Rattle.rw_world.specs.Openings.{has_bad_capacity, refusal};
 //~ ghost use Rattle.rw_world.specs.declared.opening.TheConstants.{MOST_CHANNELS};
 //~ ghost use Rattle.rw_findings.specs.Losses.{AreLosses};

@@ -5,7 +5,7 @@ use crate::shim::{Vec, vec}; //+
 //~ ghost use Rattle.std.specs.Prelude.{◌≡◌, ◌≤◌, ◌<◌, [], ◌∷◌, ◌++◌, IfOk, OnOk, length, None, slice_index_or};
 //~ ghost use Rattle.rw_broadcast.specs.Arithmetic.{retained_capacity};
 //~ ghost use Rattle.rw_ring.specs.declared.ring.TheConstants.{MOST_CAPACITY};
-//~ ghost use Rattle.rw_findings.specs.LossTracks.{first_position, lag_in, loss_by, loss_in, next_position};
+//~ ghost use Rattle.rw_findings.specs.LossTracks.{first_position, loss_by, loss_in, next_position};
 //~ ghost use Rattle.rw_findings.specs.LossTracks.{opened_track, oldest_in, subject, with_call, with_position};
 
 use super::loss::{Loss, LossEnd};

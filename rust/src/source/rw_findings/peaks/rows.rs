@@ -2,8 +2,8 @@
 // From crates/rw_findings/src/peaks/rows.rt, with its contracts as comments. //+
 use crate::shim::Vec; //+
 
-//~ ghost use Rattle.std.specs.Prelude.{◌≡◌, ℕ, [], IfOk, OnOk, length, slice_index_or};
-//~ ghost use Rattle.rw_findings.specs.Peaks.{Raised, alone, peak_in, raised_to};
+//~ ghost use Rattle.std.specs.Prelude.{◌≡◌, ℕ, [], OnOk, length, slice_index_or};
+//~ ghost use Rattle.rw_findings.specs.Peaks.{Raised, alone, raised_to};
 
 use crate::source::rw_law::NoMemory;
 use crate::shim::alloc::Global;

@@ -2,7 +2,7 @@
 // From crates/rw_findings/src/totals/broadcast.rt, with its contracts as comments. //+
 use crate::shim::{Vec, vec}; //+
 
-//~ ghost use Rattle.std.specs.Prelude.{◌≡◌, ◌<◌, ◌≤◌, ◌+◌, ◌^◌, IfOk, OnOk, Option, None, length, option_map, slice_index_or};
+//~ ghost use Rattle.std.specs.Prelude.{◌≡◌, ◌<◌, ◌≤◌, ◌+◌, ◌^◌, IfOk, OnOk, Option, None, length, option_map};
 //~ ghost use Rattle.rw_ring.specs.declared.ring.TheConstants.{MOST_CAPACITY};
 //~ ghost use Rattle.rw_findings.specs.BroadcastTallies.{after_drop, after_lag, after_value, counts_from, HasRoom, HasRoomFor, lag_of_reader, made_reader};
 //~ ghost use Rattle.rw_findings.specs.BroadcastTallies.{new_reader, oldest_of, opened_broadcast, reader_in, reader_of, settled, with_call, with_reader};

@@ -1,9 +1,8 @@
 //! What is counted of a channel of either kind while its entries are passed.
 // From crates/rw_findings/src/totals/tally.rt, with its contracts as comments. //+
 
-//~ ghost use Rattle.std.specs.Prelude.{◌≡◌, ◌≤◌, IfOk, OnOk, Option, None, length};
-//~ ghost use Rattle.rw_world.specs.Openings.{has_bad_capacity};
-//~ ghost use Rattle.rw_findings.specs.Tallies.{counts_in, HasRoom, made_in, tally_of, with_reply};
+//~ ghost use Rattle.std.specs.Prelude.{◌≡◌, OnOk, Option};
+//~ ghost use Rattle.rw_findings.specs.Tallies.{counts_in, HasRoom, made_in, with_reply};
 
 use super::broadcast::BroadcastTally;
 use super::total::Counts;

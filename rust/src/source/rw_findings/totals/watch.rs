@@ -2,7 +2,7 @@
 // From crates/rw_findings/src/totals/watch.rt, with its contracts as comments. //+
 use crate::shim::{Vec, vec}; //+
 
-//~ ghost use Rattle.std.specs.Prelude.{◌≡◌, ◌<◌, ◌≤◌, ◌+◌, ◌-◌, ◌^◌, IfOk, OnOk, Option, length, option_map};
+//~ ghost use Rattle.std.specs.Prelude.{◌≡◌, ◌<◌, ◌+◌, ◌-◌, IfOk, OnOk, Option, length, option_map};
 //~ ghost use Rattle.rw_findings.specs.WatchTallies.{after_change, after_end, after_look, after_mark, after_update, counts_from, HasRoom};
 //~ ghost use Rattle.rw_findings.specs.WatchTallies.{HasRoomFor, made_watcher, new_watcher, opened_watch, watcher_in, with_call, with_watcher};
 

@@ -2,7 +2,7 @@
 // From crates/rw_navigator/src/worlds/debugger.rt, with its contracts as comments. //+
 use crate::shim::Vec; //+
 
-//~ ghost use Rattle.std.specs.Prelude.{[], ◌≡◌, ◌<◌, ◌≤◌, ◌↔◌, ℕ, Bool, false, IsSome, IsTrue, IfErr, IfOk, IfSome, List, None, OnErr, OnOk, length, slice_get, unwrap_or};
+//~ ghost use Rattle.std.specs.Prelude.{[], ◌≡◌, ◌<◌, ◌≤◌, ◌↔◌, Bool, false, IsSome, IsTrue, IfErr, IfOk, IfSome, List, None, OnErr, OnOk, length, slice_get, unwrap_or};
 //~ ghost use Rattle.rw_journal.specs.Book.{opening_of};
 //~ ghost use Rattle.rw_journal.specs.Run.{IsRun};
 //~ ghost use Rattle.rw_navigator.specs.Conditions.{asks_step, holds_of_step};

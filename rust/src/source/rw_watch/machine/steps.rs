@@ -1,6 +1,6 @@
 //! The steps of a watch channel, by the table of calls.
 // From crates/rw_watch/src/machine/steps.rt, with its contracts as comments. //+
-//~ ghost use Rattle.std.specs.Prelude.{◌≡◌, ◌<◌, ◌≤◌, length, slice_get, Some, IsTrue};
+//~ ghost use Rattle.std.specs.Prelude.{◌≡◌, ◌<◌, length, slice_get, Some, IsTrue};
 //~ ghost use Rattle.rw_handles.specs.declared.kinds.Kind.TheVariants.{Receiver};
 //~ ghost use Rattle.rw_handles.specs.declared.kinds.Slot.TheVariants.{Live};
 //~ ghost use Rattle.rw_handles.specs.declared.kinds.Found.TheVariants.{Handle};
