@@ -1,29 +1,24 @@
 -- Runs over files.
 use Rattle.std.proofs.Common.{◌≡◌, ◌<◌, ◌≤◌, ◌++◌, ℕ, List, [], Option, None, Some, Result, Ok, Err, inl}
 use Rattle.std.proofs.Common.{inr, refl, sym, ap, subst, ◌∙◌, codes, length, arith, lit<}
-use Rattle.std.specs.Io.KnownBytes.{Appends, Consumes, IsAtEnd, Keeps}
+use Rattle.std.specs.Io.KnownBytes.{Appends, Consumes, Keeps}
 use Rattle.std.proofs.lemmas.List.{append-nil, length-append}
 use Rattle.rw_console.specs.SessionReport.{recording_of}
 use Rattle.rw_console.specs.declared.sessions.TheConstants.{MOST_BYTES}
 use Rattle.rw_journal.specs.Run.{Run}
-use Rattle.rw_lines.specs.Lines.{lines}
 use Rattle.rw_lines.specs.Writing.{WritesPrefix}
 use Rattle.rw_lines.specs.declared.streams.StreamFault.{StreamFault}
 use Rattle.rw_lines.proofs.Known.{Appends-none}
 use Rattle.rw_lines.specs.declared.streams.StreamFault.TheVariants.{Write, NoMemory}
-use Rattle.rw_script.specs.declared.faults.ScriptFault.{ScriptFault}
-use Rattle.rw_script.specs.Faults.{Gives}
-use Rattle.rw_script.specs.Script.{Script, script_in}
+use Rattle.rw_script.specs.Script.{Script}
 use Rattle.rw_law.specs.Numbers.{numbers}
 use Rattle.rw_text.specs.declared.faults.TextFault.{TextFault}
-use Rattle.rw_text.proofs.Finishing.{said_fault}
 use Rattle.rw_text.specs.Faults.{text_fault_line}
-use Rattle.rw_text.specs.Reading.{Finishes}
 use Rattle.rw_text.specs.Salvaging.{salvage_of}
 use Rattle.rw_text.specs.Texts.{text, text_of}
 use Rattle.rw_program.specs.declared.reading.FileFault.{FileFault}
 use Rattle.rw_program.specs.declared.reading.FileFault.TheVariants as file_fault
-use Rattle.rw_program.specs.Contents.{HasNoScript, HasNoText, IsOfScript, IsOfText, ReadsWhole}
+use Rattle.rw_program.specs.Contents.{HasNoScript, HasNoText, IsNoScript, IsNoText, ReadsWhole}
 use Rattle.rw_program.specs.Endings.{end_of_record}
 use Rattle.rw_program.specs.Files.{Closes, ExplainsReading, Fails, OverFile, TellsLine, TellsWhy}
 use Rattle.rw_program.specs.Statuses.{Tells}
@@ -32,22 +27,20 @@ use Rattle.rw_program.specs.Verbs.{Salvages}
 -- ---- what is read
 
 -- if bytes that were read whole are refused, so is their file, for the same reason
-pub no_script : (file file' : Option (List ℕ)) (bytes : List ℕ) → Consumes file file' bytes → IsAtEnd file' → length bytes ≤ MOST_BYTES
-    → (fault : ScriptFault) → Gives (Err fault) (script_in (lines bytes)) → (why : FileFault) → IsOfScript fault why → HasNoScript file file' why
-no_script file file' bytes read ended few fault given (file_fault.Stream why) (memory, same) =
+pub no_script : (file file' : Option (List ℕ)) (bytes : List ℕ) → Consumes file file' bytes → length bytes ≤ MOST_BYTES → (why : FileFault)
+    → ((Said : List ℕ → Type 0) → Said bytes → ReadsWhole file file' Said) → IsNoScript bytes why → HasNoScript file file' why
+no_script file file' bytes read few (file_fault.Stream fault) whole (same, asks) =
     (bytes, read, subst (λ (e : StreamFault). ExplainsReading (length bytes) e) (sym same) few)
-no_script file file' bytes read ended few fault (inl said) (file_fault.Script why) (other, same) = (bytes, read, ended, few, said ∙ ap (λ x. Err x) (sym same))
-no_script file file' bytes read ended few fault (inr memory) (file_fault.Script why) (other, same) = absurd (other memory)
-no_script file file' bytes read ended few fault given (file_fault.Text why) none = absurd none
+no_script file file' bytes read few (file_fault.Script fault) whole said = whole _ said
+no_script file file' bytes read few (file_fault.Text fault) whole said = absurd said
 
 pub no_text : {X : Type 0} (text_of : List ℕ → Result X TextFault) (file file' : Option (List ℕ)) (bytes : List ℕ) → Consumes file file' bytes
-    → IsAtEnd file' → length bytes ≤ MOST_BYTES
-    → (fault : TextFault) → Finishes (Err fault) (text_of bytes) → (why : FileFault) → IsOfText fault why → HasNoText text_of file file' why
-no_text text_of file file' bytes read ended few fault finishes (file_fault.Stream why) (memory, same) =
+    → length bytes ≤ MOST_BYTES → (why : FileFault)
+    → ((Said : List ℕ → Type 0) → Said bytes → ReadsWhole file file' Said) → IsNoText text_of bytes why → HasNoText text_of file file' why
+no_text text_of file file' bytes read few (file_fault.Stream fault) whole (same, asks) =
     (bytes, read, subst (λ (e : StreamFault). ExplainsReading (length bytes) e) (sym same) few)
-no_text text_of file file' bytes read ended few fault finishes (file_fault.Script why) none = absurd none
-no_text text_of file file' bytes read ended few fault finishes (file_fault.Text why) (other, same) =
-    (bytes, read, ended, few, said_fault fault (text_of bytes) other finishes ∙ ap (λ x. Err x) (sym same))
+no_text text_of file file' bytes read few (file_fault.Script fault) whole said = absurd said
+no_text text_of file file' bytes read few (file_fault.Text fault) whole said = whole _ said
 
 -- a run over a file whose bytes were read whole
 pub over : {file file' : Option (List ℕ)} {Said Made : List ℕ → Type 0} (Unmade : StreamFault → Type 0) → ReadsWhole file file' Said

@@ -1,29 +1,30 @@
 -- What a file is: a script, a run's journal text, or neither.
-use Rattle.std.specs.Prelude.{◌≡◌, ◌≢◌, ◌≤◌, ℕ, List, Option, Result, Ok, Err, length}
+use Rattle.std.specs.Prelude.{◌≡◌, ◌≤◌, ℕ, List, Option, Result, Ok, Err, length}
 use Rattle.std.specs.Io.KnownBytes.{Consumes, IsAtEnd}
 use Rattle.rw_console.specs.declared.sessions.TheConstants.{MOST_BYTES}
-use Rattle.rw_lines.specs.declared.streams.StreamFault.TheVariants as stream
+use Rattle.rw_law.specs.Numbers.{numbers}
+use Rattle.rw_lines.specs.declared.streams.StreamFault.TheVariants.{NoMemory}
 use Rattle.rw_lines.specs.Lines.{lines}
-use Rattle.rw_script.specs.declared.faults.ScriptFault.{ScriptFault}
-use Rattle.rw_script.specs.declared.faults.ScriptFaultKind.TheVariants as kind
+use Rattle.rw_script.specs.Memory as in_script
 use Rattle.rw_script.specs.Script.{Script, script_in}
+use Rattle.rw_text.specs.Memory as in_text
 use Rattle.rw_text.specs.declared.faults.TextFault.{TextFault}
-use Rattle.rw_text.specs.declared.faults.TextFault.TheVariants as text_fault
 use Rattle.rw_program.specs.declared.reading.FileFault.{FileFault}
 use Rattle.rw_program.specs.declared.reading.FileFault.TheVariants as file_fault
 use Rattle.rw_program.specs.Files.{StopsReading}
 
--- what a script's fault is as a file's: where memory ran out, it is a fault of reading
-abbrev pub IsOfScript : ScriptFault → FileFault → Type 0
-IsOfScript fault (file_fault.Stream why) = (fault.kind ≡ kind.NoMemory) × (why ≡ stream.NoMemory)
-IsOfScript fault (file_fault.Script why) = (fault.kind ≢ kind.NoMemory) × (why ≡ fault)
-IsOfScript fault (file_fault.Text why) = ⊥
+-- why bytes aren't read as a script: memory ran out at a line that allocates, after the lines before it were accepted, or this is
+-- their first fault
+abbrev pub IsNoScript : List ℕ → FileFault → Type 0
+IsNoScript bytes (file_fault.Stream fault) = (fault ≡ NoMemory) × ((number : ℕ) × in_script.AsksMemory (lines bytes) number)
+IsNoScript bytes (file_fault.Script fault) = script_in (lines bytes) ≡ Err fault
+IsNoScript bytes (file_fault.Text fault) = ⊥
 
--- the same of a journal text's fault
-abbrev pub IsOfText : TextFault → FileFault → Type 0
-IsOfText fault (file_fault.Stream why) = (fault ≡ text_fault.NoMemory) × (why ≡ stream.NoMemory)
-IsOfText fault (file_fault.Script why) = ⊥
-IsOfText fault (file_fault.Text why) = (fault ≢ text_fault.NoMemory) × (why ≡ fault)
+-- the same for a journal text, by how its bytes are read
+abbrev pub IsNoText : {X : Type 0} → (List ℕ → Result X TextFault) → List ℕ → FileFault → Type 0
+IsNoText said bytes (file_fault.Stream fault) = (fault ≡ NoMemory) × in_text.AsksMemory numbers bytes
+IsNoText said bytes (file_fault.Script fault) = ⊥
+IsNoText said bytes (file_fault.Text fault) = said bytes ≡ Err fault
 
 -- a file's bytes were read whole, no more than are allowed, and this holds of them
 abbrev pub ReadsWhole : Option (List ℕ) → Option (List ℕ) → (List ℕ → Type 0) → Type 0
