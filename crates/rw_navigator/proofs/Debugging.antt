@@ -1,5 +1,5 @@
 -- A debugger moves as its visit does.
-use Rattle.std.proofs.Common.{◌≡◌, ◌+◌, ◌-◌, ℕ, zero, suc, List, [], ◌∷◌, Bool, true, false, Some, length, refl, sym, ap, ◌∙◌, subst}
+use Rattle.std.proofs.Common.{◌≡◌, ◌+◌, ◌-◌, ℕ, zero, suc, List, [], ◌∷◌, Bool, true, false, Option, Some, None, length, refl, sym, ap, ◌∙◌, subst}
 use Rattle.std.specs.Prelude.{slice_get, IfSome, OnOk, OnErr, Result, Ok, Err}
 use Rattle.std.proofs.Math.Seq.{take-length}
 use Rattle.rw_journal.specs.Run.{Run}
@@ -30,10 +30,11 @@ module _ {V : Type 0} where
   -- a visit from the opening of the specs
   pub begun : ShowsAtPlaces V → RecordsAsDocumented V → (specs : List (Spec V)) (visit : Visit V) → start_of of_world visit ≡ opening_row specs
       → IsLegal of_world (opening_row specs) visit.entries
-      → IsDebugger specs visit
+      → IsDebugger specs visit None
   begun shows recorded specs visit start legal = record {
     shows = λ n. ap (λ x. after of_world x visit.entries n) start ∙ shows specs visit.entries n;
     documented = recorded specs visit.entries legal;
+    indexed = tt;
   }
 
   -- a visit to a run's entries that is at place p
@@ -54,12 +55,13 @@ module _ {V : Type 0} where
       ≡ after of_world (opening_row run.specs) run.entries (last_place run)
   at_last_place run = ap (after_all of_world (opening_row run.specs)) (sym (take-length run.entries))
 
-  module _ (specs : List (Spec V)) (v w : Visit V) (is : IsDebugger specs v) (p n : ℕ) where
+  module _ {kept : Option (List (WorldEntry V))} (specs : List (Spec V)) (v w : Visit V) (is : IsDebugger specs v kept) (p n : ℕ) where
     -- it is still a debugger, and went where the visit went
-    pub still : MovedTo of_world v w p n → IsDebugger specs w
+    pub still : MovedTo of_world v w p n → IsDebugger specs w kept
     still moved = record {
       shows = λ i. rw (moved.start, moved.entries) (is.shows i);
       documented = subst (λ es. IsDocumented specs es) (sym moved.entries) is.documented;
+      indexed = subst (λ us. IfSome kept (λ es. es ≡ us)) (sym moved.entries) is.indexed;
     }
 
     pub went : MovedTo of_world v w p n → WentTo (debugger_at specs v) (debugger_at specs w) p n
@@ -72,9 +74,9 @@ module _ {V : Type 0} where
 
     -- the same for a call that went there, or failed and left the visit unchanged
     module _ {A E : Type 0} where
-      pub still_on : (r : Result A E) → OnOk r (MovedTo of_world v w p n) → OnErr r (w ≡ v) → IsDebugger specs w
+      pub still_on : (r : Result A E) → OnOk r (MovedTo of_world v w p n) → OnErr r (w ≡ v) → IsDebugger specs w kept
       still_on (Ok a) moved left = still moved
-      still_on (Err e) moved left = subst (λ x. IsDebugger specs x) (sym left) is
+      still_on (Err e) moved left = subst (λ x. IsDebugger specs x kept) (sym left) is
 
       pub went_on : (r : Result A E) → OnOk r (MovedTo of_world v w p n) → OnOk r (WentTo (debugger_at specs v) (debugger_at specs w) p n)
       went_on (Ok a) moved = went moved
@@ -85,18 +87,18 @@ module _ {V : Type 0} where
       left_on (Err e) left = ap (debugger_at specs) left
 
   -- the hits of the visit are those of the run
-  same_hits : (specs : List (Spec V)) (v : Visit V) → IsDebugger specs v
+  same_hits : {kept : Option (List (WorldEntry V))} (specs : List (Spec V)) (v : Visit V) → IsDebugger specs v kept
       → (on_step : Bool) (step : WorldEntry V → Bool) (state : List (ChanShown V) → Bool) (p : ℕ)
       → hit of_world on_step step state v p ≡ is_hit (debugger_at specs v).run on_step step state p
   same_hits specs v is true step state p = refl
   same_hits specs v is false step state p = rw (is.shows p, is.shows (p - 1)) refl
 
-  pub found_below : (specs : List (Spec V)) (v : Visit V) → IsDebugger specs v
+  pub found_below : {kept : Option (List (WorldEntry V))} (specs : List (Spec V)) (v : Visit V) → IsDebugger specs v kept
       → (on_step : Bool) (step : WorldEntry V → Bool) (state : List (ChanShown V) → Bool)
       → last_below (hit of_world on_step step state v) v.place ≡ hit_below (debugger_at specs v).run on_step step state v.place
   found_below specs v is on_step step state = last_below-same _ _ (same_hits specs v is on_step step state) v.place
 
-  pub found_above : (specs : List (Spec V)) (v : Visit V) → IsDebugger specs v
+  pub found_above : {kept : Option (List (WorldEntry V))} (specs : List (Spec V)) (v : Visit V) → IsDebugger specs v kept
       → (on_step : Bool) (step : WorldEntry V → Bool) (state : List (ChanShown V) → Bool)
       → first_above (hit of_world on_step step state v) v.place (length v.entries) ≡ hit_above (debugger_at specs v).run on_step step state v.place
   found_above specs v is on_step step state = first_of_next-same _ _ (same_hits specs v is on_step step state) v.place (length v.entries - v.place)

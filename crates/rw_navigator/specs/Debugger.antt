@@ -1,5 +1,5 @@
 -- A debugger: a machine at a place of a run.
-use Rattle.std.specs.Prelude.{◌≡◌, ℕ, ◌≤◌, List, Option, unwrap_or}
+use Rattle.std.specs.Prelude.{◌≡◌, ℕ, ◌≤◌, IfSome, List, Option, unwrap_or}
 use Rattle.rw_journal.specs.Run.{Run}
 use Rattle.rw_law.specs.Journal.{after}
 use Rattle.rw_world.specs.declared.opening.Spec.{Spec}
@@ -74,16 +74,18 @@ module _ {V : Type 0} where
     turns = visit.machine.turns;
   }
 
-  -- at each place of the visited journal the documented state is shown, and each reply is the documented one
-  pub record IsDebugger (specs : List (Spec V)) (visit : Visit V) : Type 0 where
+  -- at each place of the visited journal the documented state is shown, each reply is the documented one, and what is indexed, if
+  -- anything is, are its entries
+  pub record IsDebugger (specs : List (Spec V)) (visit : Visit V) (kept : Option (List (WorldEntry V))) : Type 0 where
     pub shows : (n : ℕ) → after of_world (start_of of_world visit) visit.entries n ≡ documented_at specs visit.entries n
     pub documented : IsDocumented specs visit.entries
+    pub indexed : IfSome kept (λ es. es ≡ visit.entries)
 
   -- a visit to these entries by this machine, at a place
   abbrev pub visit_of : List (WorldEntry V) → Counted (List (Chan V)) → ℕ → Visit V
   visit_of es machine place = record { machine = machine; entries = es; place = place }
 
   -- the machine is at this place of a run that others have
-  pub record IsVisitor (run : Run V) (machine : Counted (List (Chan V))) (place : ℕ) : Type 0 where
+  pub record IsVisitor (run : Run V) (machine : Counted (List (Chan V))) (place : ℕ) (kept : Option (List (WorldEntry V))) : Type 0 where
     pub visits : IsNavigator of_world (visit_of run.entries machine place)
-    pub debugs : IsDebugger run.specs (visit_of run.entries machine place)
+    pub debugs : IsDebugger run.specs (visit_of run.entries machine place) kept

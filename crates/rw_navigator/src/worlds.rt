@@ -2,6 +2,7 @@
 
 mod condition;
 mod debugger;
+mod indexes;
 mod visitor;
 
 pub use condition::{Cond, closed_at, lag_at, seen_at};

@@ -1,8 +1,9 @@
 //! The debugger of a run.
 
-ghost use Rattle.std.specs.Prelude.{[], ◌≡◌, ◌<◌, ◌≤◌, ◌↔◌, ℕ, Bool, false, IsTrue, IfErr, IfOk, IfSome, List, None, OnErr, OnOk, length, slice_get, unwrap_or};
+ghost use Rattle.std.specs.Prelude.{[], ◌≡◌, ◌<◌, ◌≤◌, ◌↔◌, ℕ, Bool, false, IsSome, IsTrue, IfErr, IfOk, IfSome, List, None, OnErr, OnOk, length, slice_get, unwrap_or};
 ghost use Rattle.rw_journal.specs.Book.{opening_of};
 ghost use Rattle.rw_journal.specs.Run.{IsRun};
+ghost use Rattle.rw_navigator.specs.Conditions.{asks_step, holds_of_step};
 ghost use Rattle.rw_navigator.specs.Debugger.{as_run, FoundAt, StandsAt, WentAlong, WentBy, WentTo};
 ghost use Rattle.rw_navigator.specs.Hits.{hit_above, hit_below};
 ghost use Rattle.rw_navigator.specs.Moves.{answer_to, answers_to, distance_between};
@@ -11,7 +12,10 @@ ghost use Rattle.rw_navigator.specs.Search.{first_above, last_below, most_above,
 ghost use Rattle.rw_world.specs.Machines.{ChanShown};
 ghost use Rattle.rw_world.specs.Openings.{opening_row, refusal};
 ghost use Rattle.rw_world.specs.Records.{IsDocumented};
+ghost use Rattle.rw_world.specs.Specified.{WorldEntry};
 
+use super::condition::Cond;
+use super::indexes::Indexes;
 use super::visitor::Visitor;
 use crate::conditions::Probe;
 use crate::hit_index::HitIndex;
@@ -30,6 +34,8 @@ use std::snapshot::Snapshot;
 pub struct Debugger<V: Copy> {
     pub(super) specs: Vec<Spec<V>>,
     pub(super) visit: Navigator<World<V>>,
+    // Of the conditions on entries that were searched for. There are none before the first.
+    pub(super) indexes: Option<Indexes<V>>,
 }
 
 impl<V: Copy> Model for Debugger<V> {
@@ -39,7 +45,7 @@ impl<V: Copy> Model for Debugger<V> {
 
     ghost view = { λ a. debugger_at a.specs.items a.visit };
 
-    ghost invariant = { λ a. IsDebugger a.specs.items a.visit };
+    ghost invariant = { λ a. IsDebugger a.specs.items a.visit a.indexes };
 }
 
 impl<V: Copy> Debugger<V> {
@@ -54,7 +60,11 @@ impl<V: Copy> Debugger<V> {
         let visit = Navigator::open(alloc, start, run.entries())?;
         machines::<V>();
         documented::<V>();
-        Ok(Debugger { specs, visit })
+        Ok(Debugger {
+            specs,
+            visit,
+            indexes: None,
+        })
     }
 
     /// Opens the run of a book at its last place, with the book's machine and entries: no call is made again. The book was
@@ -68,7 +78,11 @@ impl<V: Copy> Debugger<V> {
         let visit = Navigator::at_end(start, machine, entries);
         machines::<V>();
         documented::<V>();
-        Debugger { specs, visit }
+        Debugger {
+            specs,
+            visit,
+            indexes: None,
+        }
     }
 
     /// Opens a run at place 0, and takes it over: there is no second list of its entries. All memory that the moves will need is
@@ -89,7 +103,11 @@ impl<V: Copy> Debugger<V> {
         ensures run { result.0 ≡ self.run }
         ensures visitor { result.1 ≡ self }
     {
-        let Debugger { specs, visit } = self;
+        let Debugger {
+            specs,
+            visit,
+            indexes,
+        } = self;
         let Navigator {
             machine,
             entries,
@@ -100,6 +118,7 @@ impl<V: Copy> Debugger<V> {
             run: Snapshot::of(&run),
             machine,
             place,
+            indexes,
         };
         (run, visitor)
     }
@@ -222,6 +241,27 @@ impl<V: Copy> Debugger<V> {
             WentTo self.old self.new (unwrap_or result self.old.place) (distance_between self.old.place (unwrap_or result self.old.place)) }
     {
         self.visit.forward_to(probe)
+    }
+
+    /// Indexes a condition on entries for later searches, unless it is indexed already or memory runs out.
+    pub fn keep_index(&mut self, alloc: Global, cond: Cond)
+        ensures { self.new ≡ self.old }
+    {
+        let mut indexes = Indexes::of_visit(self.indexes.take(), alloc, &self.visit);
+        indexes.keep(alloc, &self.visit, cond);
+        self.indexes = Some(indexes);
+    }
+
+    /// Returns the index of a condition, if it is kept.
+    pub fn index_of(&self, cond: Cond) -> Option<&HitIndex<World<V>, Cond>>
+        ensures run { IfSome result (λ index. index.now.entries ≡ self.now.run.entries) }
+        ensures step { IsSome result → IsTrue (asks_step cond) }
+        ensures same { IfSome result (λ index. (e : WorldEntry V) → holds_of_step index.now.probe e ≡ holds_of_step cond e) }
+    {
+        match &self.indexes {
+            Some(indexes) => indexes.get(cond),
+            None => None,
+        }
     }
 
     /// Builds the index of a condition on entries over the run.

@@ -5,6 +5,7 @@ ghost use Rattle.rw_navigator.specs.Debugger.{StandsAt, WentTo};
 ghost use Rattle.rw_navigator.specs.Places.{last_place, shown_at};
 
 use super::debugger::Debugger;
+use super::indexes::Indexes;
 use crate::counting::Counted;
 use crate::places::Navigator;
 use rw_journal::Run;
@@ -15,13 +16,14 @@ use std::marker::Model;
 use std::snapshot::Snapshot;
 
 /// A world at one of the places of a run that others have, who lend it the run where it goes on. So there is no second list of the
-/// entries.
+/// entries. The indexes of a debugger stay with it.
 #[derive(Drop)]
 pub struct Visitor<V: Copy> {
     // Has no bytes: it shows the run to contracts.
     pub(super) run: Snapshot<Run<V>>,
     pub(super) machine: Counted<World<V>>,
     pub(super) place: u64,
+    pub(super) indexes: Option<Indexes<V>>,
 }
 
 impl<V: Copy> Model for Visitor<V> {
@@ -31,7 +33,7 @@ impl<V: Copy> Model for Visitor<V> {
 
     ghost view = { λ a. debugger_at a.run.value.specs (visit_of a.run.value.entries a.machine a.place) };
 
-    ghost invariant = { λ a. IsVisitor a.run.value a.machine a.place };
+    ghost invariant = { λ a. IsVisitor a.run.value a.machine a.place a.indexes };
 }
 
 impl<V: Copy> Visitor<V> {
@@ -50,6 +52,7 @@ impl<V: Copy> Visitor<V> {
             run: Snapshot::of(run),
             machine: Counted::new(start),
             place: 0,
+            indexes: None,
         })
     }
 
@@ -82,6 +85,7 @@ impl<V: Copy> Visitor<V> {
             run: _,
             machine,
             place,
+            indexes,
         } = self;
         let (specs, entries) = run.into_parts();
         let visit = Navigator {
@@ -89,6 +93,10 @@ impl<V: Copy> Visitor<V> {
             entries,
             place,
         };
-        Debugger { specs, visit }
+        Debugger {
+            specs,
+            visit,
+            indexes,
+        }
     }
 }

@@ -14,7 +14,6 @@ mod condition_words;
 mod console;
 mod debugging;
 mod entries;
-mod index;
 mod reading;
 mod session_lines;
 mod sessions;

@@ -2,23 +2,20 @@
 // From crates/rw_console/src/walk.rt, with its contracts as comments. //+
 use crate::shim::Vec; //+
 
-//~ ghost use Rattle.std.specs.Prelude.{◌≡◌, ◌++◌, ◌≢◌, ◌≤◌, ℕ, false, IfErr, IfOk, IfSome, IsSome, IsTrue, OnOk, unwrap_or};
+//~ ghost use Rattle.std.specs.Prelude.{◌≡◌, ◌++◌, ◌≢◌, ◌≤◌, false, IfErr, IfOk, IfSome, OnOk, unwrap_or};
 //~ ghost use Rattle.rw_journal.specs.Run.{IsRun};
 //~ ghost use Rattle.rw_console.specs.Hits.{hit_above, hit_below};
 //~ ghost use Rattle.rw_console.specs.Report.{output_of, place_of};
-//~ ghost use Rattle.rw_navigator.specs.Conditions.{asks_step, holds_of_step};
 //~ ghost use Rattle.rw_navigator.specs.Moves.{answer_to, landing, place_after};
 //~ ghost use Rattle.rw_navigator.specs.Places.{entry_to, last_place};
-//~ ghost use Rattle.rw_world.specs.Specified.{WorldEntry};
 
 use crate::source::rw_console::command::Command;
 use crate::source::rw_console::entries::push_entry;
-use crate::source::rw_console::index::{CondIndex, MOST_INDEXES, asks_the_same};
 use crate::source::rw_console::text::{push_hit, push_place, push_refusal};
 use crate::source::rw_blocks::{push_json, push_world};
 use crate::source::rw_journal::Run;
 use crate::source::rw_law::{Entry, NoMemory, Reversible};
-use crate::source::rw_navigator::{Cond, Debugger, HitIndex, Move, OutOfRange, Probe, Visitor};
+use crate::source::rw_navigator::{Cond, Debugger, Move, OutOfRange, Visitor};
 use crate::source::rw_world::World;
 use crate::shim::alloc::{AllocError, Global};
 //~ use std::marker::Model;
@@ -29,12 +26,10 @@ pub struct Walk {
     alloc: Global,
     debugger: Debugger<u64>,
     place: u64,
-    // Of the conditions on entries that were searched for, as far as there was memory for them. No two are of one condition.
-    indexes: Vec<CondIndex>,
 }
 
 //~ impl Model for Walk {
-//~     ghost use Rattle.std.specs.Prelude.{◌≡◌, ◌≤◌, All};
+//~     ghost use Rattle.std.specs.Prelude.{◌≤◌};
 //~     ghost use Rattle.rw_console.specs.Walk.{Walk as Seen};
 //~     ghost use Rattle.rw_navigator.specs.Places.{last_place as last_of};
 //~
@@ -42,7 +37,7 @@ pub struct Walk {
 //~
 //~     ghost view = { λ a. record { run = a.debugger.run; place = a.place } };
 //~
-//~     ghost invariant = { λ a. (a.place ≤ last_of a.debugger.run) × All (λ i. i.index.entries ≡ a.debugger.run.entries) a.indexes.items };
+//~     ghost invariant = { λ a. a.place ≤ last_of a.debugger.run };
 //~ }
 
 impl Walk {
@@ -78,14 +73,12 @@ impl Walk {
             alloc,
             debugger,
             place,
-            indexes,
         } = self;
         let (run, visitor) = debugger.pause();
         let paused = PausedWalk {
             alloc,
             visitor,
             place,
-            indexes,
         };
         (run, paused)
     }
@@ -99,7 +92,6 @@ impl Walk {
             alloc,
             place: debugger.len(),
             debugger,
-            indexes: Vec::new(alloc),
         }
     }
 
@@ -168,38 +160,6 @@ impl Walk {
         push_json(self.alloc, out, world, self.debugger.len(), self.place)
     }
 
-    /// Returns the index of a condition, if it is there.
-    fn index_of(&self, cond: Cond) -> Option<&HitIndex<World<u64>, Cond>>
-//~         ensures run { IfSome result (λ index. index.now.entries ≡ self.now.run.entries) }
-//~         ensures step { IsSome result → IsTrue (asks_step cond) }
-//~         ensures same { IfSome result (λ index. (e : WorldEntry ℕ) → holds_of_step index.now.probe e ≡ holds_of_step cond e) }
-    {
-        for i in 0..self.indexes.len() {
-            if asks_the_same(cond, self.indexes[i].cond) {
-                return Some(&self.indexes[i].index);
-            }
-        }
-        None
-    }
-
-    /// Indexes a condition on entries, unless it is indexed already or memory runs out.
-    fn keep_index(&mut self, cond: Cond)
-//~         ensures { self.new ≡ self.old }
-    {
-        if self.index_of(cond).is_some() || !<Cond as Probe<World<u64>>>::on_step(&cond) {
-            return;
-        }
-        if self.indexes.len() >= MOST_INDEXES {
-            self.indexes.clear();
-        }
-        if self.indexes.reserve(1).is_err() {
-            return;
-        }
-        if let Some(built) = CondIndex::build(self.alloc, &self.debugger, cond) {
-            self.indexes.push_reserved(built);
-        }
-    }
-
     /// Goes to a hit. Without a hit, the place stays the same.
     fn go_to(&mut self, found: Option<u64>)
 //~         requires { IfSome found (λ hit. hit ≤ last_place self.old.run) }
@@ -217,8 +177,8 @@ impl Walk {
 //~         ensures place { self.new.place ≡ unwrap_or result self.old.place }
 //~         ensures run { self.new.run ≡ self.old.run }
     {
-        self.keep_index(cond);
-        let Some(index) = self.index_of(cond) else {
+        self.debugger.keep_index(self.alloc, cond);
+        let Some(index) = self.debugger.index_of(cond) else {
             bring(&mut self.debugger, self.place);
             let found = self.debugger.back_to(&cond);
             self.place = self.debugger.place();
@@ -235,8 +195,8 @@ impl Walk {
 //~         ensures place { self.new.place ≡ unwrap_or result self.old.place }
 //~         ensures run { self.new.run ≡ self.old.run }
     {
-        self.keep_index(cond);
-        let Some(index) = self.index_of(cond) else {
+        self.debugger.keep_index(self.alloc, cond);
+        let Some(index) = self.debugger.index_of(cond) else {
             bring(&mut self.debugger, self.place);
             let found = self.debugger.forward_to(&cond);
             self.place = self.debugger.place();
@@ -304,17 +264,16 @@ impl Walk {
     }
 }
 
-/// A walk whose run others have: its world and its indexes stay.
+/// A walk whose run others have: its world stays, with the indexes.
 //~ #[derive(Drop)]
 pub struct PausedWalk {
     alloc: Global,
     visitor: Visitor<u64>,
     place: u64,
-    indexes: Vec<CondIndex>,
 }
 
 //~ impl Model for PausedWalk {
-//~     ghost use Rattle.std.specs.Prelude.{◌≡◌, ◌≤◌, All};
+//~     ghost use Rattle.std.specs.Prelude.{◌≤◌};
 //~     ghost use Rattle.rw_console.specs.Walk.{Walk as Seen};
 //~     ghost use Rattle.rw_navigator.specs.Places.{last_place as last_of};
 //~
@@ -322,7 +281,7 @@ pub struct PausedWalk {
 //~
 //~     ghost view = { λ a. record { run = a.visitor.run; place = a.place } };
 //~
-//~     ghost invariant = { λ a. (a.place ≤ last_of a.visitor.run) × All (λ i. i.index.entries ≡ a.visitor.run.entries) a.indexes.items };
+//~     ghost invariant = { λ a. a.place ≤ last_of a.visitor.run };
 //~ }
 
 impl PausedWalk {
@@ -335,14 +294,12 @@ impl PausedWalk {
             alloc,
             visitor,
             place,
-            indexes,
         } = self;
         let debugger = visitor.resume(run);
         Walk {
             alloc,
             debugger,
             place,
-            indexes,
         }
     }
 }

@@ -6,8 +6,8 @@
 //! made one more call for each place passed.
 //! Start reading at `places.rt`, the Navigator and its single steps, and continue with `walks.rt`. The searches, which stop
 //! where a condition is met, are in `search_back.rt` and `search_forward.rt`. `hit_index.rt` lists the hits of a condition on
-//! entries, for many searches. `worlds.rt` builds on this: a `Debugger` walks over the run of a world, and its contract states
-//! the documented state at each place.
+//! entries, for many searches. `worlds.rt` builds on this: a `Debugger` walks over the run of a world and keeps such lists, and
+//! its contract states the documented state at each place.
 //! What stands on it: `example_ticker`, `rw_console`, `rw_findings`.
 //~ #![tactic(auto)]
 // From crates/rw_navigator/src/lib.rt, with its contracts as comments. //+

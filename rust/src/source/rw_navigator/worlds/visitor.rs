@@ -6,6 +6,7 @@
 //~ ghost use Rattle.rw_navigator.specs.Places.{last_place, shown_at};
 
 use super::debugger::Debugger;
+use super::indexes::Indexes;
 use crate::source::rw_navigator::counting::Counted;
 use crate::source::rw_navigator::places::Navigator;
 use crate::source::rw_journal::Run;
@@ -16,13 +17,14 @@ use crate::shim::alloc::Global;
 use crate::shim::snapshot::Snapshot;
 
 /// A world at one of the places of a run that others have, who lend it the run where it goes on. So there is no second list of the
-/// entries.
+/// entries. The indexes of a debugger stay with it.
 //~ #[derive(Drop)]
 pub struct Visitor<V: Copy> {
     // Has no bytes: it shows the run to contracts.
     pub(super) run: Snapshot<Run<V>>,
     pub(super) machine: Counted<World<V>>,
     pub(super) place: u64,
+    pub(super) indexes: Option<Indexes<V>>,
 }
 
 //~ impl<V: Copy> Model for Visitor<V> {
@@ -32,7 +34,7 @@ pub struct Visitor<V: Copy> {
 //~
 //~     ghost view = { λ a. debugger_at a.run.value.specs (visit_of a.run.value.entries a.machine a.place) };
 //~
-//~     ghost invariant = { λ a. IsVisitor a.run.value a.machine a.place };
+//~     ghost invariant = { λ a. IsVisitor a.run.value a.machine a.place a.indexes };
 //~ }
 
 impl<V: Copy> Visitor<V> {
@@ -51,6 +53,7 @@ impl<V: Copy> Visitor<V> {
             run: Snapshot::of(run),
             machine: Counted::new(start),
             place: 0,
+            indexes: None,
         })
     }
 
@@ -83,6 +86,7 @@ impl<V: Copy> Visitor<V> {
             run: _,
             machine,
             place,
+            indexes,
         } = self;
         let (specs, entries) = run.into_parts();
         let visit = Navigator {
@@ -90,6 +94,10 @@ impl<V: Copy> Visitor<V> {
             entries,
             place,
         };
-        Debugger { specs, visit }
+        Debugger {
+            specs,
+            visit,
+            indexes,
+        }
     }
 }

@@ -4,7 +4,7 @@ use super::worlds::WALK;
 use crate::texts::rows::{OVERRUN, run_of};
 use proved::rw_console::Walk;
 use proved::rw_journal::Run;
-use proved::rw_navigator::{Debugger, Move, OutOfRange, Visitor, lag_at};
+use proved::rw_navigator::{Cond, Debugger, Move, OutOfRange, Visitor, lag_at};
 use proved::{Global, Vec};
 
 /// Asserts that the moves with a debugger have the results that are told. Returns the place after them, and how many calls its
@@ -39,10 +39,12 @@ fn a_run_that_is_taken_over_is_lent() {
     let mut debugger = Debugger::of_run(Global, run_of(OVERRUN)).ok().unwrap();
     assert_eq!((debugger.place(), debugger.len()), (0, 7));
     assert_eq!(moved(&mut debugger, WALK.moves, WALK.answers), (7, 15));
+    debugger.keep_index(Global, Cond::Actor(1));
     let (run, visitor) = debugger.pause();
     let found = walked(&run, WALK.moves, WALK.answers);
     assert_eq!(found, (7, 15));
     let debugger = visitor.resume(run);
+    assert!(debugger.index_of(Cond::Actor(1)).is_some());
     assert_eq!(
         (debugger.place(), debugger.turns(), debugger.len()),
         (7, 15, 7)

@@ -6,4 +6,4 @@ use Rattle.rw_console.proofs.walk.Walk.forward_to.Goals as goal
 pub returns-in_default-clause-found : goal.returns-in_default-clause-found
 returns-in_default-clause-found c =
     let found = c.forward_to-found.ensures.found (holds_of_shown c.args.cond) (λ x. refl) in
-    rw (← c.keep_index.ensures, ← c.self.view_is) (rw c.bring.ensures.place at (rw c.bring.ensures.run at found))
+    rw (← c.self.view_is, ← c.keep_index.ensures) (rw c.bring.ensures.place at (rw c.bring.ensures.run at found))
