@@ -40,8 +40,11 @@ pub use journal_error::JournalError;
 pub use state::State;
 
 use crate::run::Run;
-use crate::source::rw_navigator::{Debugger, Move};
+use crate::shim::alloc::Global;
+use crate::source::rw_navigator::{Cond, Debugger, HitIndex, Move};
+use crate::source::rw_world::World;
 use std::fmt;
+use std::iter::successors;
 
 /// A run, and a place in it.
 pub struct Walk {
@@ -49,7 +52,7 @@ pub struct Walk {
 }
 
 impl Walk {
-    /// Opens the run of a journal text, at its last place. All memory that the walk will need is
+    /// Opens the run of a journal text, at its last place. All memory that its moves will need is
     /// allocated here.
     ///
     /// # Errors
@@ -205,6 +208,8 @@ impl Walk {
     /// Goes back to the nearest hit of a condition before the place, and returns it. Without one it
     /// stays where it is.
     ///
+    /// The first search for a condition on calls lists its hits, and later ones look them up there.
+    ///
     /// ```
     /// # use yovanelum::debugger::{Condition, Walk};
     /// # let journal = "ttd-journal 2\nbroadcast 2\nsteps\n1 0 0 send 0 0 = sent 1\n2 0 0 recv 1 = value 0\nend\n";
@@ -215,7 +220,13 @@ impl Walk {
     /// # Ok::<(), yovanelum::debugger::JournalError>(())
     /// ```
     pub fn find_back(&mut self, condition: &Condition) -> Option<u64> {
-        self.debugger.back_to(&condition.0)
+        let place = self.place();
+        let Some(index) = self.index(condition) else {
+            return self.debugger.back_to(&condition.0);
+        };
+        let hit = index.before(place)?;
+        self.go_to(hit);
+        Some(hit)
     }
 
     /// Goes on to the nearest hit of a condition after the place, and returns it. Without one it
@@ -232,13 +243,26 @@ impl Walk {
     /// # Ok::<(), yovanelum::debugger::JournalError>(())
     /// ```
     pub fn find_forward(&mut self, condition: &Condition) -> Option<u64> {
-        self.debugger.forward_to(&condition.0)
+        let place = self.place();
+        let Some(index) = self.index(condition) else {
+            return self.debugger.forward_to(&condition.0);
+        };
+        let hit = index.after(place)?;
+        self.go_to(hit);
+        Some(hit)
+    }
+
+    /// Returns the index of a condition on calls, or `None` if memory runs out. The first search of
+    /// the condition makes it.
+    fn index(&mut self, condition: &Condition) -> Option<&HitIndex<World<u64>, Cond>> {
+        self.debugger.keep_index(Global, condition.0);
+        self.debugger.index_of(condition.0)
     }
 
     /// Counts the hits of a condition from the start to the place, with the place itself. The walk
     /// is at the same place then.
     ///
-    /// It makes the calls up to there again.
+    /// For a condition on states, it makes the calls up to there again.
     ///
     /// ```
     /// # use yovanelum::debugger::{Condition, Walk};
@@ -251,6 +275,10 @@ impl Walk {
     /// ```
     pub fn hits_so_far(&mut self, condition: &Condition) -> u64 {
         let here = self.place();
+        if let Some(index) = self.index(condition) {
+            let hits = successors(index.after(0), |hit| index.after(*hit));
+            return hits.take_while(|hit| *hit <= here).count() as u64;
+        }
         let mut hits = 0;
         self.go_to(0);
         while self.find_forward(condition).is_some_and(|hit| hit <= here) {

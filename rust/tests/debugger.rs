@@ -81,6 +81,20 @@ fn moves_and_questions_allocate_nothing() {
 }
 
 #[test]
+fn searches_for_calls_find_the_same_without_memory() {
+    let condition = Condition::channel(1);
+    let sum = |walk: &mut Walk| -> u64 {
+        assert!(walk.go_to(9));
+        std::iter::from_fn(|| walk.find_back(&condition)).sum()
+    };
+    let mut walk = Walk::open(recorded().as_bytes()).unwrap();
+    let (found, refused) = refusing(Refusal::after(0), || sum(&mut walk));
+    // The level's sends are the calls 2, 4, 6 and 8. Each search asks for the memory of an index.
+    assert_eq!((found, refused), (2 + 4 + 6 + 8, 5));
+    assert_eq!(sum(&mut walk), found);
+}
+
+#[test]
 fn a_journal_that_is_refused_says_its_first_fault_and_line() {
     let journal = recorded();
     let wrong = journal.replace("= lagged 2", "= lagged 1");

@@ -1,8 +1,9 @@
 //! Walks over random runs, beside the console of `ttd`, and beside runs of the first calls alone.
 
-use super::{Condition, Walk};
+use super::{Condition, Entry, Walk};
 use crate::console;
 use crate::run::tests::{Random, random_journal, random_of, runs};
+use crate::source::rw_navigator::Cond;
 use std::fmt::Write as _;
 
 /// Returns what the console prints for `state` and `step`.
@@ -32,17 +33,19 @@ fn walked(walk: &mut Walk) -> (String, String) {
     (shows, commands)
 }
 
+/// First words of replies.
+const REPLIES: [&str; 8] = [
+    "sent", "value", "lagged", "closed", "stored", "done", "new", "flag",
+];
+
 /// Returns a condition, which may name nothing.
 fn random_condition(random: &mut Random) -> Condition {
     let mut number = |below| u64::from(random.below(below));
     let (channel, handle, count) = (number(3), number(5), number(4));
-    let replies = [
-        "sent", "value", "lagged", "closed", "stored", "done", "new", "flag",
-    ];
     match number(9) {
         0 => Condition::actor(count),
         1 => Condition::channel(channel),
-        2 => Condition::reply(replies[number(8) as usize]).unwrap(),
+        2 => Condition::reply(REPLIES[number(8) as usize]).unwrap(),
         3 => Condition::unread(channel, handle, count),
         4 => Condition::lagging(channel, handle),
         5 => Condition::unseen(channel, handle),
@@ -176,6 +179,72 @@ fn hits_are_counted_up_to_the_place() {
         most > 3 && counted > 0,
         "{most} hits at most, in {counted} runs"
     );
+}
+
+/// Returns conditions on calls, of which some have no hit.
+fn conditions_on_calls() -> Vec<Condition> {
+    let numbered = (0..5).flat_map(|number| [Condition::actor(number), Condition::channel(number)]);
+    let replies = REPLIES.map(|reply| Condition::reply(reply).unwrap());
+    numbered.chain(replies).collect()
+}
+
+/// Whether a call meets a condition on calls, by what is shown of the call.
+fn is_met(entry: &Entry, condition: &Condition) -> bool {
+    match condition.0 {
+        Cond::Actor(actor) => u64::from(entry.actor()) == actor,
+        Cond::Channel(channel) => u64::from(entry.channel()) == channel,
+        Cond::ReplyKind(word) => entry.reply().as_bytes() == word.text(),
+        _ => unreachable!("{condition} is on states"),
+    }
+}
+
+/// Asserts that searches from each place find the calls that a scan finds, and that counting the
+/// hits makes no call.
+fn finds_as_a_scan(walk: &mut Walk, condition: &Condition) {
+    let places = 1..=walk.len();
+    let hits: Vec<_> = places
+        .filter(|place| is_met(&walk.entry(*place).unwrap(), condition))
+        .collect();
+    for place in 0..=walk.len() {
+        let below = hits.iter().copied().rfind(|hit| *hit < place);
+        let above = hits.iter().copied().find(|hit| *hit > place);
+        walk.go_to(place);
+        assert_eq!(walk.find_back(condition), below, "{condition} at {place}");
+        assert_eq!(walk.place(), below.unwrap_or(place));
+        walk.go_to(place);
+        assert_eq!(
+            walk.find_forward(condition),
+            above,
+            "{condition} at {place}"
+        );
+        assert_eq!(walk.place(), above.unwrap_or(place));
+        walk.go_to(place);
+        let turns = walk.debugger.turns();
+        let so_far = hits.iter().filter(|hit| **hit <= place).count() as u64;
+        assert_eq!(
+            walk.hits_so_far(condition),
+            so_far,
+            "{condition} at {place}"
+        );
+        assert_eq!(walk.debugger.turns(), turns);
+    }
+}
+
+#[test]
+fn calls_are_found_by_an_index_as_by_a_scan() {
+    for seed in 0..runs() / 10 {
+        let mut walk = Walk::open(random_journal(seed).as_bytes()).unwrap();
+        for condition in conditions_on_calls() {
+            finds_as_a_scan(&mut walk, &condition);
+            assert!(walk.debugger.index_of(condition.0).is_some());
+        }
+        walk.find_back(&Condition::lagging(0, 1));
+        let of_states = walk.debugger.index_of(Cond::Lagging {
+            channel: 0,
+            handle: 1,
+        });
+        assert!(of_states.is_none());
+    }
 }
 
 #[test]
