@@ -2,11 +2,8 @@
 // From crates/rw_navigator/src/worlds/debugger.rt, with its contracts as comments. //+
 use crate::shim::Vec; //+
 
-<<<<<<< HEAD
-//~ ghost use Rattle.std.specs.Prelude.{[], ◌≡◌, ◌<◌, ◌≤◌, ◌↔◌, Bool, false, IsSome, IsTrue, IfErr, IfOk, IfSome, List, None, OnErr, OnOk, length, slice_get, unwrap_or};
-=======
-//~ ghost use Rattle.std.specs.Prelude.{[], ◌≡◌, ◌<◌, ◌≤◌, ◌↔◌, ℕ, Bool, false, IsSome, IsTrue, IfErr, IfOk, IfSome, List, None, OnErr, OnOk, length, slice_get, unwrap_or};
->>>>>>> 4cb7d29f73be9074bb960ec10956e6199da72fd3
+//~ ghost use Rattle.std.specs.Prelude.{[], ◌≡◌, ◌<◌, ◌≤◌, ◌↔◌, Bool, false};
+//~ ghost use Rattle.std.specs.Prelude.{IsSome, IsTrue, IfErr, IfOk, IfSome, List, None, OnErr, OnOk, length, slice_get, unwrap_or};
 //~ ghost use Rattle.rw_journal.specs.Book.{opening_of};
 //~ ghost use Rattle.rw_journal.specs.Run.{IsRun};
 //~ ghost use Rattle.rw_navigator.specs.Conditions.{asks_step, holds_of_step};
