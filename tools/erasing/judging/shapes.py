@@ -21,11 +21,18 @@ def base(code, i):
 
 
 def array_pattern(code, i):
-    """Elements of an array within another pattern of a `let`: where that fails, they are dropped in another order."""
+    """Elements of an array within another pattern of a `let`: where that fails, they are dropped in another order. Where one of them is a literal,
+    all are of a type that has nothing to drop."""
     end = code.next_of(i + 1, ("=", ":", ";"))
-    if any(code.has(k, "[") and code.opening(k) > i for k in range(i + 1, end)):
-        return "the pattern of an array within that of a `let`: elements are dropped in another order"
+    for k in range(i + 1, end):
+        if code.has(k, "[") and code.opening(k) > i and not has_literal(code, k):
+            return "the pattern of an array within that of a `let`: elements are dropped in another order"
     return None
+
+
+def has_literal(code, bracket):
+    """Whether one of the elements within a bracket is a literal."""
+    return any(code.opening(k) == bracket and code.kind(k) in ("char", "number", "string") for k in range(bracket, code.close_of(bracket)))
 
 
 def clone(code, i):
