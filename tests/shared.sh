@@ -140,16 +140,26 @@ test_programs() {
   for program in "$top"/rust/tests/*.rs "$top"/rust/tests/*/main.rs; do basename "${program%/main.rs}" .rs; done
 }
 
-# Has cargo build the program, not optimised, where the crate's tests have it too, and sets `built` to its path.
+# Makes the folder of the crates that cargo builds the program of, and sets `crates` to cargo's words for it.
+make_crates() {
+  crates=(--config "$out/crates/config.toml")
+  "$top/rust/ttd/sources" "$out/crates"
+}
+
+# Has cargo build the program, not optimised, where its package's tests have it too, and sets `built` to its path.
 build_program() {
-  built=$out/rust/target/debug/ttd
-  CARGO_NET_OFFLINE=true CARGO_TARGET_DIR=$out/rust/target step cargo build -q --locked --manifest-path "$top/rust/Cargo.toml" --bin ttd
+  local crates
+  built=$out/ttd/debug/ttd
+  make_crates || fail "the program isn't built"
+  CARGO_TARGET_DIR=$out/ttd step cargo build -q --locked "${crates[@]}" --manifest-path "$top/rust/ttd/Cargo.toml"
 }
 
 # Has cargo install the program, as users do but for the number of parts in which it is optimised, and sets `installed` to its path.
 install_program() {
+  local crates
   installed=$out/program/bin/ttd
-  CARGO_NET_OFFLINE=true CARGO_TARGET_DIR=$out/source step cargo install -q --locked --path "$top/rust" --bin ttd --root "$out/program" --force
+  make_crates || fail "the program isn't installed"
+  CARGO_TARGET_DIR=$out/source step cargo install -q --locked "${crates[@]}" --path "$top/rust/ttd" --root "$out/program" --force
 }
 
 # Prints the sum, which is a script's last line, and ends with status 0 if nothing failed. What was left out isn't counted as passed.

@@ -16,7 +16,7 @@ import index.pages
 import module
 
 # Folders in which nothing stands that isn't built.
-BUILT, SOURCE, INDEX = "rust/built", "rust/src/source", "docs/proof/index"
+BUILT, SOURCE, INDEX = "rust/built", "rust/src/core/source", "docs/proof/index"
 PAGE = f"{BUILT}/yovanelum.html"
 PROGRAM = f"{BUILT}/x86_64-linux/ttd"
 
@@ -63,12 +63,12 @@ def program(top, work):
 
 
 def page(top, work):
-    """The page, over a module of the proved crate."""
+    """The page, over the engine, which is made of the Rust source. It needs no kit."""
     return {PAGE: document.page(f"{top}/page", module.build(top, work)).encode()}
 
 
 def page_again(top):
-    """The page with the current scripts and the module of the built page, for work on the page alone. It needs no kit."""
+    """The page with the current scripts and the module of the built page, for work on the page alone. It needs no compiler."""
     built = read(f"{top}/{PAGE}").decode()
     module_there = document.module_of(built)
     if module_there is None:
@@ -80,7 +80,7 @@ def page_again(top):
 
 
 # What is built under each name: how, of which crate, which has to be proved first, and the folder that it fills, if it fills one.
-PRODUCTS = {"source": (source, None, SOURCE), "index": (contracts, None, INDEX), "ttd": (program, "rw_ttd", None), "page": (page, "rw_page", None)}
+PRODUCTS = {"source": (source, None, SOURCE), "index": (contracts, None, INDEX), "ttd": (program, "rw_ttd", None), "page": (page, None, None)}
 
 
 def build(name, top):

@@ -33,7 +33,7 @@ interface ReceiverState {
   position?: number;
   unread?: number;
   lag?: number;
-  mark?: number;
+  mark?: number | null;
   seen?: boolean;
 }
 
@@ -97,9 +97,9 @@ interface Life {
   user: number | null;
   /** The place of its last call, or of the one that made it. */
   last: number;
-  /** Once they are listed: the actor that made it, unless its channel opened with it, and where in the list those are that called with it. */
+  /** Once they are listed: the actor that made it, unless its channel opened with it, and where it is in the list. */
   maker?: number | null;
-  callersAt?: number;
+  listedAt?: number;
 }
 
 /**

@@ -76,7 +76,7 @@ def made_as_why_says(tab, folder, journals):
         kinds |= {(fact["kind"], fact["order"]) for fact in account["facts"]}
         if account["failure"] is not None:
             kinds.add("failure")
-    assert kinds >= {("loss", 2), ("loss", 3), ("loss", 4), ("unlooked", 5), ("closing", 7), "failure"}, kinds
+    assert kinds >= {("loss", 7), ("loss", 8), ("loss", 13), ("unlearned", 11), ("closing", 14), "failure"}, kinds
 
 
 # Each address of a place in the sources in the answer, and the text that its button copies.

@@ -1,19 +1,20 @@
 // Compares pairs of runs as the page's worker does: for each line of standard input, a JSON object with two runs, it writes one with what differs. A
 // run has the journal's text and that of its names.
 import { createInterface } from "node:readline";
-import { readNames } from "../src/run/names.js";
-import { comparedWith } from "../src/worker/against/difference.js";
+import { comparedWith } from "../src/worker/found.js";
+import { builtEngine } from "./built_engine.js";
 
-function runOf({ journal, names }) {
-  const lines = journal.split("\n");
-  const steps = lines.indexOf("steps");
-  const channels = lines.slice(1, steps).map(line => ({ kind: line.split(" ")[0], capacity: Number(line.split(" ")[1]) }));
-  return { journal: new TextEncoder().encode(journal), channels, lastPlace: lines.length - steps - 3, names: readNames(names).parts };
-}
+// By the numbers of page/engine/src/beside.rs.
+const KINDS = ["same", "missing", "other", "order", "value", "reply", "more"];
+
+const engine = builtEngine();
 
 for await (const line of createInterface({ input: process.stdin })) {
-  const { kinds, partners, back, words, lines } = comparedWith(...JSON.parse(line).map(runOf));
-  const differing = [...kinds.keys()].filter(place => kinds[place] > 0).map(place => ({ kind: words[kinds[place]], here: place, there: partners[place] || null }));
+  const [here, there] = JSON.parse(line);
+  engine.open(new TextEncoder().encode(here.journal));
+  engine.name(new TextEncoder().encode(here.names));
+  const { kinds, partners, back, lines } = comparedWith(engine, there.journal, there.names);
+  const differing = [...kinds.keys()].filter(place => kinds[place] > 0).map(place => ({ kind: KINDS[kinds[place]], here: place, there: partners[place] || null }));
   for (let place = 1; place < back.length; place++) if (back[place] === 0) differing.push({ kind: "more", here: null, there: place });
   console.log(JSON.stringify({ differing, text: lines }));
 }

@@ -90,8 +90,9 @@ WANTED = {
         [["`auditor` lost 3 of 5 values of `prices` (capacity 2)",
           ' call 3 prices.send("103 EUR") ticker {a price is sent} overwrote "101 EUR", which auditor had not read',
           " call 7 told: lagged 3 no_price_is_missing {the auditor is told} its last receive: none before", ' lost: "101 EUR", "102 EUR", "103 EUR"'],
-         ["`prices` closed, and its receiver was not told", " call 6 dropped the last sender ticker", " not told: `auditor`"]],
-        {"0 1": (3, 3)}),
+         ["`prices` closed, and its receiver has not read that far",
+          " call 6 dropped the last sender ticker in shop::publish::{{closure}}", " not that far: `auditor`"]],
+        {"0 1": (3, 3)}, rest="and 1 channel closed"),
     "the_log_is_read": Wanted(
         {"the_log_is_read"}, ["jobs"], {"0 1": "log · receiver 1", "0 2": "idle · receiver 2"}, {f"job {number}" for number in range(1, 5)},
         [("the_log_is_read on jobs: send 0 2 → sent 2", "job 2, not read by", "a job is sent"),
@@ -102,7 +103,7 @@ WANTED = {
          ["`idle` lost 3 of 4 values of `jobs` (capacity 1)",
           ' call 4 jobs.send("job 2") the_log_is_read {a job is sent} overwrote "job 1", which idle had not read',
           " the panic held, never read the_log_is_read {the jobs are counted}", ' lost: "job 1", "job 2", "job 3"']],
-        {"0 1": (2, 0), "0 2": (3, 0)}),
+        {"0 1": (2, 0), "0 2": (3, 0)}, rest="and 1 more receiver lost 3 values"),
     "the_orders_are_whole": Wanted(
         {"the_orders_are_whole"}, ["metrics", "orders"], {"0 1": "held · receiver 1", "1 1": "desk · receiver 1"},
         {"order 71", "order 72", "order 73"},
@@ -112,14 +113,14 @@ WANTED = {
           ' call 18 orders.send("order 73") the_orders_are_whole {an order is sent} overwrote "order 71", which desk had not read',
           " call 19 told: lagged 1 the_orders_are_whole {the desk is told} its last receive: none before", ' lost: "order 71"'],
          ["`held` lost 11 of 15 values of `metrics` (capacity 4)",
-          " call 5 metrics.send(value 4) the_orders_are_whole {a metric is sent} overwrote value 0, which held had not read",
-          " the panic held, never read the_orders_are_whole {the desk is told}", " lost: value 0, value 1, value 2, .. value 10"]],
-        {"0 1": (11, 0), "1 1": (1, 1)}),
+          " call 5 metrics.send(its 5th value) the_orders_are_whole {a metric is sent} overwrote its 1st value, which held had not read",
+          " the panic held, never read the_orders_are_whole {the desk is told}", " lost: its 1st value, its 2nd value, its 3rd value, .. its 11th value"]],
+        {"0 1": (11, 0), "1 1": (1, 1)}, rest="and 1 more receiver lost 11 values"),
     "each_state_is_seen": Wanted(
         {"each_state_is_seen", "screen"}, ["state"], {"0 1": "reader · receiver 1"}, {"loading!", "ready!", "busy!", "full!"},
         [("each_state_is_seen on state: send 0 2", "busy!", "a state is sent"),
          ("screen on state: borrow 1 → value 3", "full!", "the state is looked at")],
-        [["`reader` never looked at 2 of 3 changes of `state`", ' call 3 state.send("full!") each_state_is_seen {a state is sent} the last change',
+        [["`reader` never learned of 2 of 3 changes of `state`", ' call 3 state.send("full!") each_state_is_seen {a state is sent} the last change',
           ' call 4 state.borrow() screen {the state is looked at} its last look: "full!"']],
         nothing="no value was lost in 6 calls on 1 channel", besides=["not looked at: ready!, busy!"]),
     "the_sum_is_right": Wanted(
@@ -131,7 +132,9 @@ WANTED = {
     HANGS: Wanted(
         {HANGS, "worker"}, ["state"], {"0 1": "reader · receiver 1"}, {"loading!", "busy!"},
         [(f"{HANGS} on state: send 0 1", "busy!", "the state is busy"), ("worker on state: wait_for 1 → value 1", "busy!", "the worker waits")],
-        [], nothing="no value was lost in 2 calls on 1 channel", waiting=["worker in `state.wait_for` since call 2, {the worker waits}"],
+        [["`state.wait_for` of worker waits: `state` wasn't changed since call 1", " call 2 state.wait_for worker {the worker waits} waits",
+          f" senders: sender 0 of {{the state is made}} (last used at call 1 by {HANGS})"]],
+        waiting=["worker in `state.wait_for` since call 2, {the worker waits}"],
         besides=["`state` has busy! and 1 sender at the end"]),
     "the_second_task_gets_the_first_order": Wanted(
         {"the_second_task_gets_the_first_order", "runtime", "task 7", "reader", "till", "audit"}, ["orders"],
@@ -145,22 +148,24 @@ WANTED = {
          ["`first` lost 1 of 3 values of `orders` (capacity 2)",
           ' call 4 orders.send("order 73") task 7 {a task sends} overwrote "order 71", which first had not read',
           " call 6 told: lagged 1 till {an order is received} its last receive: none before", ' lost: "order 71"'],
-         ["`orders` closed, and 0 of 2 receivers were told", " call 5 dropped the last sender runtime", " not told: `first`, `second`"]],
-        {"0 1": (1, 1), "0 2": (1, 1)}),
+         ["`orders` closed, and its receiver has not read that far",
+          " call 5 dropped the last sender runtime in failing::the_second_task_gets_the_first_order::{{closure}}", " not that far: `second`"]],
+        {"0 1": (1, 1), "0 2": (1, 1)}, rest="and 1 channel closed"),
     "both_clerks_get_the_first_order": Wanted(
         {"both_clerks_get_the_first_order", "shop", "till", "audit"}, ["orders"], {"0 1": "till · receiver 1", "0 2": "audit · receiver 2"},
         {"order 71", "order 72", "order 73"},
         [("shop on orders: send 0 2 → sent 2", "order 71, not read by", "the shop sends"),
          ("till on orders: recv 1 → lagged 1", "lost order 71", "the till is told"),
          ("audit on orders: recv 2 → lagged 1", "lost order 71", "the audit is told")],
-        [["`audit` lost 1 of 3 values of `orders` (capacity 2)",
+        [["`audit` panicked at {the audit asserts}: assertion `left == right` failed, left: Err(Lagged(1)), right: Ok(71)",
+          " a panic unwinds audit {the audit asserts}"],
+         ["`audit` lost 1 of 3 values of `orders` (capacity 2)",
           ' call 4 orders.send("order 73") shop {the shop sends} overwrote "order 71", which audit had not read',
           " call 8 told: lagged 1 audit {the audit is told} its last receive: none before", ' lost: "order 71"'],
          ["`till` lost 1 of 3 values of `orders` (capacity 2)",
           ' call 4 orders.send("order 73") shop {the shop sends} overwrote "order 71", which till had not read',
-          " call 6 told: lagged 1 till {the till is told} its last receive: none before", ' lost: "order 71"'],
-         ["`orders` closed, and 0 of 2 receivers were told", " call 5 dropped the last sender shop", " not told: `till`, `audit`"]],
-        {"0 1": (1, 1), "0 2": (1, 1)}),
+          " call 6 told: lagged 1 till {the till is told} its last receive: none before", ' lost: "order 71"']],
+        {"0 1": (1, 1), "0 2": (1, 1)}, rest="and 1 more receiver lost 1 value"),
     "the_notes_are_whole": Wanted(
         {"the_notes_are_whole"}, ["👩‍🚀 orders 🦀"], {"0 1": '<b>desk</b> &amp; "co" · receiver 1'}, {note(1), note(2), note(3)},
         [("the_notes_are_whole on 👩‍🚀 orders 🦀: send 0 1 → sent 1", note(1), "a note is sent"),
@@ -182,14 +187,14 @@ WANTED = {
           f' call 157 prices.send("4 EUR") {FORTY} {{forty screens get a price}} overwrote "2 EUR", which screen 3 had not read',
           f' call 231 told: lagged 2 {FORTY} {{the fourth screen is told}} its last receive: call 46, "1 EUR"', ' lost: "2 EUR", "3 EUR"'],
          *map(screen_untold, range(3))],
-        {f"0 {2 + number}": (2, 2 if number == 3 else 0) for number in range(4)}, rest="and 1 more receiver lost 2 values"),
+        {f"0 {2 + number}": (2, 2 if number == 3 else 0) for number in range(4)}, rest="and 3 more receivers lost 6 values"),
     FULL: Wanted(
         {FULL}, ["ticks"], {"0 2": "reader · receiver 1"}, set(), [],
         # It makes 1,080,007 calls, of which the last 555,719 are kept: all but the first chunk. Four calls lead to them.
         [["`reader` lost 2 of at most 540004 values of `ticks` (capacity 2)",
-          " call 555719 ticks.send(value 540002) the_last_tick_arrives {four ticks are sent} overwrote value 540000, which reader had not read",
-          " call 555721 told: lagged 2 the_last_tick_arrives {the last tick is received} its last receive: call 555716, value 539999",
-          " lost: value 540000, value 540001"]],
+          " call 555719 ticks.send(its 540003rd value) the_last_tick_arrives {four ticks are sent} overwrote its 540001st value, which reader had not read",
+          " call 555721 told: lagged 2 the_last_tick_arrives {the last tick is received} its last receive: call 555716, its 540000th value",
+          " lost: its 540001st value, its 540002nd value"]],
         {"0 2": (2, 2)}, unknown=["524288 calls came before the window"]),
     LAST_BUS: Wanted(
         {LAST_BUS}, [f"channel {number}" for number in range(64)], {f"{number} 1": "receiver 1" for number in range(64)}, set(), [], [],
@@ -267,7 +272,7 @@ def report_of(name):
     """The lines of a test's report, up to the page's address. The watchdog of a test that hangs prints none."""
     _, block = said()[0].split(f"---- {name} stdout ----\n")
     lines = block.split("\nlook: ")[0].split("\n")
-    first = next(i for i, line in enumerate(lines) if re.match("error: |yovanelum: (?:no|dump of)", line))
+    first = next(i for i, line in enumerate(lines) if re.match("failed: |error: |yovanelum: (?:no|dump of)", line))
     return lines[first:]
 
 
@@ -307,7 +312,7 @@ def untimed(line):
 
 def placed(line):
     """A line with the places in the sources in place of the comments in braces."""
-    return re.sub(r"\{([a-z ]+)\}", lambda comment: line_of(comment[1]), line)
+    return re.sub(r"(?<!\{)\{([a-z ]+)\}", lambda comment: line_of(comment[1]), line)
 
 
 def lines_of(account):
@@ -315,11 +320,16 @@ def lines_of(account):
     told = account["facts"][:account["rest"]["after"]]
     lines = [f"yovanelum: {account['window']['text']}"] if "window" in account else []
     lines += [f"yovanelum: not all is known: {'; '.join(account['unknown'])}"] if account["unknown"] else []
+    lines += [f"failed: {account['failed']['text']}"] if account["failed"] else []
     for level, fact in zip(["error", "warning", "warning"], told):
+        level = "warning" if fact["order"] >= 12 and fact["kind"] != "loss" else level
         lines += [f"{level}: {fact['text'][0]}", *fact["text"][1:]]
     lines += [account["rest"]["text"]] if account["rest"]["text"] else []
     lines += [f"yovanelum: {account['nothing']}"] if account["nothing"] else []
-    return lines + ([f"still waiting: {'; '.join(it['text'] for it in account['waiting'])}"] if account["waiting"] else [])
+    # A call of which a fact tells isn't listed again.
+    told = [fact["places"][-1]["place"] for fact in told if fact["kind"] == "wait"]
+    waiting = [it["text"] for it in account["waiting"] if it["since"] not in told]
+    return lines + ([f"still waiting: {'; '.join(waiting)}"] if waiting else [])
 
 
 def check_printed(lines, account):
@@ -379,7 +389,9 @@ def check_answer(tab, account):
     for index, place in enumerate(places):
         tab.run(f"document.querySelectorAll('#answer .fact [data-place]')[{index}].click()")
         opening.settle(tab, place["place"])
-        source = place["location"] and place["role"] != "failure" and f" at {place['location'][0]}:{place['location'][1]}"
+        # A panic, and a call in its first poll, stand beside a step of the journal: its sentence has the step's own place.
+        is_beside = place["role"] in ("failure", "panic", "begin")
+        source = place["location"] and not is_beside and f" at {place['location'][0]}:{place['location'][1]}"
         assert not source or source in tab.run("document.getElementById('sentence').textContent"), (place, tab.text("sentence"))
 
 

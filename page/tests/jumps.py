@@ -215,9 +215,10 @@ def report_as_markdown(tab, folder, journals):
     tab.wait("document.getElementById('copied').textContent === 'copied'")
     copied = tab.run("copied")
     with open(failing.beside(page, ".names"), encoding="utf-8") as file:
-        facts = json.load(file)["account"]["facts"]
+        account = json.load(file)["account"]
+    told = [fact["text"] for fact in account["facts"][:account["rest"]["after"]]] + [[account["rest"]["text"]]]
     head, found_, here, link = re.fullmatch(r"(### .*)\n\n(```+)text\n(.*?)\n\2\n\n```+text\n(.*?)\n```+\n\n(.*)\n", copied, re.S).group(1, 3, 4, 5)
-    assert head == "### no\\_price\\_is\\_missing.journal" and found_ == "\n".join(line for fact in facts for line in fact["text"]), copied
+    assert head == "### no\\_price\\_is\\_missing.journal" and found_ == "\n".join(line for fact in told for line in fact), copied
     lines = here.split("\n")
     assert lines[0].startswith("call 3 of 8: ticker on prices: send 0 2 → sent 1 at src/lib.rs:") and lines[1].startswith("auditor · receiver 1 lost 1 of 3"), lines
     assert link == f"The page: <{tab.run('location.href')}>", link

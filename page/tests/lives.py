@@ -14,13 +14,14 @@ WATCH = """(() => {
     const { postMessage } = Worker.prototype, requests = new Map();
     const belongs = (user, { maker, callers }) => user === null ? maker === null && callers.length === 0
         : user === maker || callers.some(({ actor }) => actor === user);
-    const read = bytes => {
-        const listed = [];
-        for (const line of new TextDecoder().decode(bytes).split('\\n').slice(0, -1)) {
-            const [, channel, handle, kind, from, maker, to, ...calls] = line.split(' ');
-            const callers = calls.flatMap((it, i) => i % 2 ? [] : [{ actor: Number(it), calls: Number(calls[i + 1]) }]);
-            (listed[channel] ??= [])[handle] = { kind: kind.replace('-', ' '), from: Number(from), maker: maker === '-' ? null : Number(maker),
-                to: to === '-' ? opened.at(-1).lastPlace + 1 : Number(to), callers };
+    const read = ({ handles, callers }) => {
+        const listed = [], none = number => number === 2 ** 32 - 1;
+        for (let at = 0, start = 0; at < handles.length; start = handles[at + 6], at += 7) {
+            const [channel, handle, kind, from, maker, to, end] = handles.subarray(at, at + 7);
+            const pairs = callers.subarray(start, end);
+            (listed[channel] ??= [])[handle] = { kind: ['sender', 'receiver', 'weak sender'][kind], from, maker: none(maker) ? null : maker,
+                to: none(to) ? opened.at(-1).lastPlace + 1 : to,
+                callers: Array.from({ length: pairs.length / 2 }, (_, i) => ({ actor: pairs[2 * i], calls: pairs[2 * i + 1] })) };
         }
         return listed;
     };
@@ -39,7 +40,7 @@ WATCH = """(() => {
         if (requests.size === 0) this.addEventListener('message', ({ data: { number, answer } }) => {
             const request = requests.get(number);
             if (request === 'open' && answer?.lives) opened.push({ lives: structuredClone(answer.lives), lastPlace: answer.lastPlace });
-            if (request === 'found' && answer) compare(read(answer.lives));
+            if (request === 'found' && answer) compare(read(answer));
         });
         requests.set(message.number, message.request);
         return postMessage.call(this, message, ...more);

@@ -124,8 +124,8 @@ def spoken(tab, folder, journals):
 
 
 def nothing_is_loaded(tab, folder, journals):
-    """The page loads nothing: all that it needs is in its file, of less than 400 KB."""
-    assert os.path.getsize(native.PAGE) < 410_000
+    """The page loads nothing: all that it needs is in its file, of less than 450,000 bytes."""
+    assert os.path.getsize(native.PAGE) < 450_000
     opening.load(tab, opening.page_of(folder, "alone.journal", journals[63]))
     loaded = tab.run("performance.getEntriesByType('resource').map(it => it.name).filter(it => !it.startsWith('blob:'))")
     assert loaded == [], loaded

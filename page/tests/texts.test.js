@@ -6,8 +6,7 @@ import { isolated, visible, visibleLines } from "../src/base/text.js";
 import { readEntry } from "../src/run/entries.js";
 import { Names, readNames } from "../src/run/names.js";
 import { isJournal } from "../src/run/opened_text.js";
-import { Scanner } from "../src/run/scanner.js";
-import { readState } from "../src/run/states.js";
+import { readStates } from "../src/run/states.js";
 import { countUpTo } from "../src/run/values.js";
 
 test("numbers have separators, and units", () => {
@@ -32,20 +31,20 @@ test("an entry's line is read with its arguments and its reply", () => {
   assert.strictEqual(readEntry("#1 1 0 0 drop 0 = dropped").answer, "");
 });
 
-test("a scanner reads words and numbers, and knows words that have the same sum apart", () => {
-  const scanner = new Scanner(new TextEncoder().encode("12 send Aa BB Aa - 7\n"));
-  assert.deepStrictEqual([scanner.number(), scanner.word(), scanner.word(), scanner.word(), scanner.word(), scanner.numberOrNone(), scanner.number()],
-    [12, "send", "Aa", "BB", "Aa", null, 7]);
-});
-
 test("the count of numbers up to one is that of a plain count", () => {
   const numbers = [1, 1, 4, 9, 9, 30];
   for (let most = 0; most < 32; most++) assert.strictEqual(countUpTo(numbers, most), numbers.filter(it => it <= most).length);
 });
 
-test("numbers of a state that a browser would round stay texts", () => {
-  const state = readState('{"place":1,"len":1,"channels":[{"kind":"broadcast","window":[18446744073709551615,1]}]}');
-  assert.deepStrictEqual(state.channels[0].window, ["18446744073709551615", 1]);
+test("states are read, and values that a browser would round are texts", () => {
+  const none = 2 ** 32 - 1;
+  const broadcast = [0, 1, 2, 5, 2, 2, none, none, 1, 0, 1, 0, 1, 3, 1, 1, 3, 4, 2];
+  const watch = [1, 0, 0, 1, 3, 1, 0, 2, 1, none, 0, 2, 3, 1];
+  assert.deepStrictEqual(readStates(Uint32Array.from([7, ...broadcast, ...watch]), 2, 9), [{ place: 7, len: 9, channels: [
+    { kind: "broadcast", closed: true, capacity: 2, sent: 5, retained: 2, window: ["18446744073709551615", 1], senders: [0], weak: [3],
+      receivers: [{ handle: 1, position: 3, unread: 4, lag: 2 }] },
+    { kind: "watch", closed: false, value: 2 ** 32, version: 3, senders: [0], receivers: [{ handle: 1, mark: null, seen: false }, { handle: 2, mark: 3, seen: true }] },
+  ] }]);
 });
 
 test("a journal is told from a script", () => {
@@ -58,10 +57,6 @@ test("names are read, and refused with a reason", () => {
   assert.deepStrictEqual([names.actor(0), names.actor(1), names.handle(1, 2), names.handle(0, 2), names.ending.hasFailed],
     ["a⟨U+202E⟩b", "actor 1", "audit", undefined, true]);
   assert.strictEqual(new Names().channel(4), "channel 4");
-  // What a later writer may have otherwise is left out.
-  const made = readNames('{"actors": {}, "made_by": 7, "unnamed": ["a"]}').tables;
-  assert.deepStrictEqual([made.madeBy, made.unnamed], [{}, []]);
-  assert.deepStrictEqual(readNames('{"actors": {}, "made_by": {"1": [null, 2]}, "unnamed": [3]}').tables.madeBy, { 1: [null, 2] });
   for (const [text, fault] of [
     ["[]", /no object/], ['{"version": 5}', /version 5/], ['{"x": 1}', /none of the keys/], ['{"actors": {"0": 1}}', /actors are no names/],
     ['{"values": {"0": {"1": 2}}}', /values are no texts/], ['{"window": {"reason": "x", "at": null, "lead": -1, "channels": {}}}', /window has no/],

@@ -220,7 +220,7 @@ def window_as_why_says(tab, folder, journals):
         kinds |= {fact["kind"] for fact in account["facts"]} | {"lag" for it in window["channels"].values() if it["lags"]}
         kinds |= {"time" for fact in account["facts"] for it in fact["places"] if "time" in it}
         kinds |= {"before" for fact in account["facts"] if fact["text"][1].startswith("  before the window")}
-    assert kinds >= {"loss", "unlooked", "closing", "lag", "time", "before"}, kinds
+    assert kinds >= {"loss", "unlearned", "closing", "lag", "time", "before"}, kinds
 
 
 def night():

@@ -35,6 +35,7 @@
 //! assertion `left == right` failed
 //!   left: Err(Lagged(1))
 //!  right: Ok(71)
+//! failed: slow_audit at tests/shop.rs:17: assertion `left == right` failed, left: Err(Lagged(1)), right: Ok(71); call 8 was orders.try_recv(): Lagged(1)
 //! error: `audit` lost 1 of 3 values of `orders` (capacity 2)
 //!   --> tests/shop.rs:17:18
 //! note: call 6, the send that overwrote the first of them
@@ -72,74 +73,46 @@
 #[cfg(target_pointer_width = "16")]
 compile_error!("yovanelum needs a target whose pointers have 32 bits or more");
 
-mod account;
-mod actors;
-mod atomic;
-mod backend;
-mod block_on;
-pub mod broadcast;
-mod budget;
-mod channel;
-mod clock;
-mod command;
+mod channels;
 #[cfg(test)]
 #[path = "../tests/support/console.rs"]
 mod console;
-mod cut;
-pub mod debugger;
-mod events;
-mod explore;
-#[doc(hidden)]
-pub mod given;
-mod guarded_by;
+mod core;
 pub mod guide;
-mod handle;
-mod large_pages;
-mod lists;
-mod lock;
-mod names;
-mod polled;
-mod program;
-mod queue;
-mod recorder;
-mod reentrant;
-mod replay;
-mod reply;
-mod report;
+mod harness;
 mod run;
-// `ttd` uses more of it.
-#[allow(dead_code)]
-mod shim;
-mod snapshot;
-#[rustfmt::skip]
-mod source;
+mod schedule;
 #[cfg(test)]
 #[path = "../tests/support/temporary.rs"]
 mod temporary;
-mod wait;
-mod wakers;
-pub mod watch;
-mod word;
 
-pub use actors::{Named, named, set_task_id};
+// The proved source names its crates and Rattle's std by these.
+use crate::core::{shim, source};
+
+pub use channels::actors::{Named, named, set_task_id};
 #[doc(hidden)]
-pub use actors::{SpawnedTask, blocking_task, spawned_task};
-pub use block_on::block_on;
+pub use channels::actors::{SpawnedTask, blocking_task, spawned_task};
+pub use channels::block_on::block_on;
 #[doc(hidden)]
-pub use budget::{budgeted, set_budget};
-pub use command::command;
-pub use events::{Close, Lag, on_close, on_lag};
-pub use polled::Polled;
-#[doc(hidden)]
-pub use program::set_patch;
-pub use recorder::{
-    Dump, DumpTo, Dumps, Entered, ForTest, Handle, Installed, Recorder, SaveOnPanic, Scoped,
-    Waiting, follow_this_thread,
+pub use channels::budget::{budgeted, set_budget};
+pub use channels::events::{Close, Lag, on_close, on_lag};
+pub use channels::polled::Polled;
+pub use channels::recorder::{
+    Dump, Dumps, Entered, Handle, Installed, Recorder, Scoped, Waiting, follow_this_thread,
 };
-pub use replay::Replayed;
+pub use channels::snapshot::{ChannelSnapshot, ReceiverSnapshot, Snapshot, snapshot};
 #[doc(hidden)]
-pub use replay::is_thread_held;
-pub use snapshot::{ChannelSnapshot, ReceiverSnapshot, Snapshot, snapshot};
+pub use channels::turns::is_thread_held;
+pub use channels::{broadcast, watch};
+pub use harness::flight::DumpTo;
+pub use harness::for_test::{ForTest, SaveOnPanic};
+#[doc(hidden)]
+pub use harness::given;
+#[doc(hidden)]
+pub use harness::program::set_patch;
+pub use run::command::command;
+pub use run::debugger;
+pub use schedule::replay::Replayed;
 
 // Runs the programs of the README.
 #[cfg(doctest)]

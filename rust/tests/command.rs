@@ -57,18 +57,11 @@ fn why_prints_the_report() {
     let path = journal_in(&folder);
     fs::write(path.with_extension("names"), NAMES).unwrap();
     let wanted = "\
-error: `audit` lost 2 of 3 values of `orders` (capacity 1) in 2 losses; the one told last, of 1:
+error: `audit` lost 2 of 3 values of `orders` (capacity 1) in two gaps; the last, of 1 value:
   call 4   orders.send(value 6)   actor 0  overwrote \"first\", which audit had not read
   call 5   told: lagged 1         audit    its last receive: none before
   lost: \"first\"
-warning: receiver 1 lost 2 of 3 values of `orders` (capacity 1)
-  call 4    orders.send(value 6)   actor 0  overwrote \"first\", which receiver 1 had not read
-  the end   held, never read
-  lost: \"first\", value 6
-warning: receiver 3 lost 1 of 2 values of `orders` (capacity 1)
-  call 4   orders.send(value 6)   actor 0  overwrote \"first\", which receiver 3 had not read
-  call 6   held, never read       audit
-  lost: \"first\"
+and 2 more receivers lost 3 values
 look: `yovanelum open orders.journal`, at call 4
 ";
     let said = run(&folder.0, &["why", "orders.journal"]);
@@ -81,12 +74,13 @@ const ACCOUNT: &str = r#"{
   "calls": 7,
   "channels": 2,
   "unknown": [],
+  "failed": null,
   "facts": [
-    {"kind": "loss", "order": 2, "channel": 1, "receiver": 2, "name": "audit", "lost": 2, "of": 3, "losses": 2, "end": "told", "places": [{"place": 4, "role": "cause", "line": 1, "actor": 0, "location": ["a.rs", 9, 5]}, {"place": 5, "role": "told", "line": 2, "actor": 1, "location": null}], "text": ["`audit` lost 2 of 3 values of `orders` (capacity 1) in 2 losses; the one told last, of 1:", "  call 4   orders.send(value 6)   actor 0  a.rs:9   overwrote \"first\", which audit had not read", "  call 5   told: lagged 1         audit             its last receive: none before", "  lost: \"first\""]},
-    {"kind": "loss", "order": 4, "channel": 1, "receiver": 1, "name": "receiver 1", "lost": 2, "of": 3, "losses": 1, "end": "open", "places": [{"place": 4, "role": "cause", "line": 1, "actor": 0, "location": ["a.rs", 9, 5]}, {"place": 7, "role": "end", "line": 2, "actor": null, "location": null}], "text": ["receiver 1 lost 2 of 3 values of `orders` (capacity 1)", "  call 4    orders.send(value 6)   actor 0  a.rs:9   overwrote \"first\", which receiver 1 had not read", "  the end   held, never read", "  lost: \"first\", value 6"]},
-    {"kind": "loss", "order": 4, "channel": 1, "receiver": 3, "name": "receiver 3", "lost": 1, "of": 2, "losses": 1, "end": "dropped", "places": [{"place": 4, "role": "cause", "line": 1, "actor": 0, "location": ["a.rs", 9, 5]}, {"place": 6, "role": "dropped", "line": 2, "actor": 1, "location": null}], "text": ["receiver 3 lost 1 of 2 values of `orders` (capacity 1)", "  call 4   orders.send(value 6)   actor 0  a.rs:9   overwrote \"first\", which receiver 3 had not read", "  call 6   held, never read       audit", "  lost: \"first\""]}
+    {"kind": "loss", "order": 7, "channel": 1, "receiver": 2, "name": "audit", "lost": 2, "of": 3, "losses": 2, "end": "told", "places": [{"place": 4, "role": "cause", "line": 1, "actor": 0, "location": ["a.rs", 9, 5]}, {"place": 5, "role": "told", "line": 2, "actor": 1, "location": null}], "text": ["`audit` lost 2 of 3 values of `orders` (capacity 1) in two gaps; the last, of 1 value:", "  call 4   orders.send(value 6)   actor 0  a.rs:9   overwrote \"first\", which audit had not read", "  call 5   told: lagged 1         audit             its last receive: none before", "  lost: \"first\""]},
+    {"kind": "loss", "order": 13, "channel": 1, "receiver": 1, "name": "receiver 1", "lost": 2, "of": 3, "losses": 1, "end": "open", "places": [{"place": 4, "role": "cause", "line": 1, "actor": 0, "location": ["a.rs", 9, 5]}, {"place": 7, "role": "end", "line": 2, "actor": null, "location": null}], "text": ["receiver 1 lost 2 of 3 values of `orders` (capacity 1)", "  call 4    orders.send(value 6)   actor 0  a.rs:9   overwrote \"first\", which receiver 1 had not read", "  the end   held, never read", "  lost: \"first\", value 6"]},
+    {"kind": "loss", "order": 13, "channel": 1, "receiver": 3, "name": "receiver 3", "lost": 1, "of": 2, "losses": 1, "end": "dropped", "places": [{"place": 4, "role": "cause", "line": 1, "actor": 0, "location": ["a.rs", 9, 5]}, {"place": 6, "role": "dropped", "line": 2, "actor": 1, "location": null}], "text": ["receiver 3 lost 1 of 2 values of `orders` (capacity 1)", "  call 4   orders.send(value 6)   actor 0  a.rs:9   overwrote \"first\", which receiver 3 had not read", "  call 6   held, never read       audit", "  lost: \"first\""]}
   ],
-  "rest": {"after": 3, "losses": {"receivers": 0, "values": 0}, "unlooked": {"receivers": 0, "changes": 0}, "unmarked": {"receivers": 0, "changes": 0}, "closings": 0, "text": null},
+  "rest": {"after": 1, "losses": {"receivers": 2, "values": 3}, "unlearned": {"receivers": 0, "changes": 0}, "unmarked": {"receivers": 0, "changes": 0}, "closings": 0, "text": "and 2 more receivers lost 3 values"},
   "nothing": null,
   "waiting": [
     {"actor": 0, "channel": 0, "handle": 0, "call": "closed", "since": 3, "location": ["a.rs", 9, 5], "text": "actor 0 in `channel 0: closed` since call 3, a.rs:9"}
@@ -127,8 +121,9 @@ fn why_prints_the_account_as_json() {
   "calls": 0,
   "channels": 1,
   "unknown": [],
+  "failed": null,
   "facts": [],
-  "rest": {"after": 0, "losses": {"receivers": 0, "values": 0}, "unlooked": {"receivers": 0, "changes": 0}, "unmarked": {"receivers": 0, "changes": 0}, "closings": 0, "text": null},
+  "rest": {"after": 0, "losses": {"receivers": 0, "values": 0}, "unlearned": {"receivers": 0, "changes": 0}, "unmarked": {"receivers": 0, "changes": 0}, "closings": 0, "text": null},
   "nothing": "no value was lost in 0 calls on 1 channel",
   "waiting": [],
   "losses": [],
@@ -163,9 +158,7 @@ fn in_a_workflow_the_lines_have_commands() {
     };
     let plain = said(&[]);
     assert!(!plain.contains("::error") && plain.contains("  --> src/a b.rs:9:5\n"));
-    let wanted = r#"::error file=bus/src/a b.rs,line=9,col=5,title=`audit` lost 2 of 3 values of `orders` (capacity 1) in 2 losses; the one told last%2C of 1%3A::`audit` lost 2 of 3 values of `orders` (capacity 1) in 2 losses; the one told last, of 1:%0A  call 4   orders.send(value 6)   actor 0  src/a b.rs:9   overwrote "first", which audit had not read%0A  call 5   told: lagged 1         audit                   its last receive: none before%0A  lost: "first"
-::warning file=bus/src/a b.rs,line=9,col=5,title=receiver 1 lost 2 of 3 values of `orders` (capacity 1)::receiver 1 lost 2 of 3 values of `orders` (capacity 1)%0A  call 4    orders.send(value 6)   actor 0  src/a b.rs:9   overwrote "first", which receiver 1 had not read%0A  the end   held, never read%0A  lost: "first", value 6
-::warning file=bus/src/a b.rs,line=9,col=5,title=receiver 3 lost 1 of 2 values of `orders` (capacity 1)::receiver 3 lost 1 of 2 values of `orders` (capacity 1)%0A  call 4   orders.send(value 6)   actor 0  src/a b.rs:9   overwrote "first", which receiver 3 had not read%0A  call 6   held, never read       audit%0A  lost: "first"
+    let wanted = r#"::error file=bus/src/a b.rs,line=9,col=5,title=`audit` lost 2 of 3 values of `orders` (capacity 1) in two gaps; the last%2C of 1 value%3A::`audit` lost 2 of 3 values of `orders` (capacity 1) in two gaps; the last, of 1 value:%0A  call 4   orders.send(value 6)   actor 0  src/a b.rs:9   overwrote "first", which audit had not read%0A  call 5   told: lagged 1         audit                   its last receive: none before%0A  lost: "first"
 "#;
     let look = "look: ";
     let beside = plain.replace(look, &format!("{wanted}{look}"));
@@ -177,7 +170,7 @@ fn in_a_workflow_the_lines_have_commands() {
 }
 
 /// What `why --sarif` prints of a run with one loss, with the properties that SARIF 2.1.0 requires.
-const SARIF: &str = r#"{"$schema": "https://docs.oasis-open.org/sarif/sarif/v2.1.0/errata01/os/schemas/sarif-schema-2.1.0.json", "version": "2.1.0", "runs": [{"tool": {"driver": {"name": "yovanelum", "version": "0.1.0", "rules": [{"id": "loss", "shortDescription": {"text": "A receiver lost values of a broadcast channel."}}, {"id": "unlooked", "shortDescription": {"text": "A receiver never looked at changes of a watch channel."}}, {"id": "unmarked", "shortDescription": {"text": "A receiver never marked changes of a watch channel as seen."}}, {"id": "closing", "shortDescription": {"text": "A channel closed while it had receivers."}}]}}, "columnKind": "unicodeCodePoints", "originalUriBaseIds": {"SRCROOT": {"uri": "file:///repo/bus/"}}, "invocations": [{"executionSuccessful": true, "toolExecutionNotifications": [{"level": "warning", "message": {"text": "not all is known: 1 channel left the run for later ones"}}]}], "results": [{"ruleId": "loss", "ruleIndex": 0, "level": "error", "message": {"text": "`audit` lost 1 of 2 values of `orders` (capacity 1)\n  call 2   orders.send(value 1)   actor 0  src/a b.rs:9   overwrote value 0, which audit had not read\n  call 3   told: lagged 1         audit                   its last receive: none before\n  lost: value 0"}, "locations": [{"physicalLocation": {"artifactLocation": {"uri": "src/a%20b.rs", "uriBaseId": "SRCROOT"}, "region": {"startLine": 9, "startColumn": 5}}}], "codeFlows": [{"threadFlows": [{"locations": [{"executionOrder": 1, "location": {"physicalLocation": {"artifactLocation": {"uri": "src/a%20b.rs", "uriBaseId": "SRCROOT"}, "region": {"startLine": 9, "startColumn": 5}}, "message": {"text": "call 2   orders.send(value 1)   actor 0  src/a b.rs:9   overwrote value 0, which audit had not read"}}}, {"executionOrder": 2, "location": {"message": {"text": "call 3   told: lagged 1         audit                   its last receive: none before"}}}]}]}]}]}]}
+const SARIF: &str = r#"{"$schema": "https://docs.oasis-open.org/sarif/sarif/v2.1.0/errata01/os/schemas/sarif-schema-2.1.0.json", "version": "2.1.0", "runs": [{"tool": {"driver": {"name": "yovanelum", "version": "0.1.0", "rules": [{"id": "failure", "shortDescription": {"text": "A test failed."}}, {"id": "waiting", "shortDescription": {"text": "A call on a channel waits."}}, {"id": "panic", "shortDescription": {"text": "Another thread or task panicked before the failure."}}, {"id": "loss", "shortDescription": {"text": "A receiver lost values of a broadcast channel."}}, {"id": "wait", "shortDescription": {"text": "A call waits that the failure came of."}}, {"id": "dropped", "shortDescription": {"text": "A call waited, and was dropped before it completed."}}, {"id": "empty", "shortDescription": {"text": "A receive found nothing."}}, {"id": "value", "shortDescription": {"text": "A receive returned this value."}}, {"id": "unreached", "shortDescription": {"text": "A send reached nobody."}}, {"id": "unlearned", "shortDescription": {"text": "A receiver never learned of changes of a watch channel."}}, {"id": "unmarked", "shortDescription": {"text": "A receiver never marked changes of a watch channel as seen."}}, {"id": "closing", "shortDescription": {"text": "A channel closed while it had receivers."}}]}}, "columnKind": "unicodeCodePoints", "originalUriBaseIds": {"SRCROOT": {"uri": "file:///repo/bus/"}}, "invocations": [{"executionSuccessful": true, "toolExecutionNotifications": [{"level": "warning", "message": {"text": "not all is known: 1 channel left the run for later ones"}}]}], "results": [{"ruleId": "loss", "ruleIndex": 3, "level": "error", "message": {"text": "`audit` lost 1 of 2 values of `orders` (capacity 1)\n  call 2   orders.send(value 1)   actor 0  src/a b.rs:9   overwrote value 0, which audit had not read\n  call 3   told: lagged 1         audit                   its last receive: none before\n  lost: value 0"}, "locations": [{"physicalLocation": {"artifactLocation": {"uri": "src/a%20b.rs", "uriBaseId": "SRCROOT"}, "region": {"startLine": 9, "startColumn": 5}}}], "codeFlows": [{"threadFlows": [{"locations": [{"executionOrder": 1, "location": {"physicalLocation": {"artifactLocation": {"uri": "src/a%20b.rs", "uriBaseId": "SRCROOT"}, "region": {"startLine": 9, "startColumn": 5}}, "message": {"text": "call 2   orders.send(value 1)   actor 0  src/a b.rs:9   overwrote value 0, which audit had not read"}}}, {"executionOrder": 2, "location": {"message": {"text": "call 3   told: lagged 1         audit                   its last receive: none before"}}}]}]}]}]}]}
 "#;
 
 #[test]
@@ -189,8 +182,61 @@ fn why_prints_the_account_as_sarif() {
     let names = r#"{"actors": {"1": "audit"}, "channels": {"0": "orders"}, "locations": [["src/a b.rs", 9, 5]], "calls": {"0": [null, 0, null]},
         "root": "/repo/bus", "unrecorded": {"channels": 0, "left": 1, "calls": false, "handles": 0}}"#;
     fs::write(path.with_extension("names"), names).unwrap();
-    let said = run(&folder.0, &["why", "orders.journal", "--sarif"]);
-    assert_eq!(said, (0, SARIF.to_string(), String::new()));
+    let said = |repository: Option<&str>| {
+        let mut command = Command::new(env!("CARGO_BIN_EXE_yovanelum"));
+        command.args(["why", "orders.journal", "--sarif"]);
+        command
+            .current_dir(&folder.0)
+            .env_remove("GITHUB_WORKSPACE");
+        let ran = command.envs(repository.map(|it| ("GITHUB_WORKSPACE", it)));
+        String::from_utf8(ran.output().unwrap().stdout).unwrap()
+    };
+    assert_eq!(said(None), SARIF);
+    // Code hosts know paths of the repository alone.
+    let of_repository = SARIF
+        .replace("file:///repo/bus/", "file:///repo/")
+        .replace("\"uri\": \"src/", "\"uri\": \"bus/src/");
+    assert_eq!(said(Some("/repo")), of_repository);
+}
+
+#[test]
+fn each_result_of_sarif_has_a_place() {
+    let folder = Folder::new("placeless");
+    let path = folder.0.join("orders.journal");
+    let journal = "ttd-journal 2\nbroadcast 1\nsteps\n1 0 0 send 0 0 = sent 1\n2 0 0 send 0 1 = sent 1\n3 1 0 recv 1 = lagged 1\nend\n";
+    fs::write(&path, journal).unwrap();
+    let sarif = |names: &str| {
+        fs::write(path.with_extension("names"), names).unwrap();
+        let (status, said, _) = run(&folder.0, &["why", "orders.journal", "--sarif"]);
+        assert_eq!(status, 0);
+        said
+    };
+    // Nothing has a place: the loss is a notification.
+    let said = sarif("{}");
+    assert!(said.contains("\"results\": []"), "{said}");
+    assert!(
+        said.contains(
+            "{\"level\": \"error\", \"message\": {\"text\": \"receiver 1 lost 1 of 2 values"
+        ),
+        "{said}"
+    );
+    // The panic has one, and so the loss has that, too. The call that waits has its own.
+    let names = r#"{"locations": [["a.rs", 5, 9], ["b.rs", 7, 1]], "panics": [{"text": "no", "location": 0, "actor": 1, "since": 3}],
+        "waiting": [{"actor": 0, "channel": 0, "handle": 0, "call": "closed", "since": 3, "location": 1}]}"#;
+    let said = sarif(names);
+    for (rule, place) in [
+        ("\"failure\", \"ruleIndex\": 0", "a.rs"),
+        ("\"loss\", \"ruleIndex\": 3", "a.rs"),
+        ("\"waiting\", \"ruleIndex\": 1", "b.rs"),
+    ] {
+        let result = said
+            .split("{\"ruleId\": ")
+            .find(|part| part.starts_with(rule));
+        let uri = format!(
+            "\"locations\": [{{\"physicalLocation\": {{\"artifactLocation\": {{\"uri\": \"{place}\""
+        );
+        assert!(result.unwrap().contains(&uri), "{rule} {said}");
+    }
 }
 
 #[test]

@@ -80,7 +80,7 @@ fn the_panics_of_a_test_are_in_its_names() {
     assert!(!succeeds);
     let left = Left::read(&folder.0, "panics");
     let wanted = format!(
-        r#"[{{"text": "72 is missing", "location": {}, "actor": {}, "since": 2}}, "#,
+        r#"[{{"text": "72 is missing", "location": {}, "actor": {}, "who": "auditor", "since": 2}}, "#,
         left.after("// The auditor panics here."),
         left.actor("auditor"),
     );
@@ -91,7 +91,7 @@ fn the_panics_of_a_test_are_in_its_names() {
     // between.
     assert!(last.starts_with(r#"{"text": "called `Result::unwrap()` on an `Err` value: Any"#));
     let end = format!(
-        r#""location": {}, "actor": {}, "since": 4}}]"#,
+        r#""location": {}, "actor": {}, "who": "{test}", "since": 4}}]"#,
         left.after("// The test panics here."),
         left.actor(test),
     );
@@ -100,6 +100,8 @@ fn the_panics_of_a_test_are_in_its_names() {
         r#"{{"package": "yovanelum", "target": "ends", "name": "panics", "thread": "{test}"}}"#
     );
     assert_eq!(member(&left.names, "test"), wanted);
+    // The second panic unwound the recorder.
+    assert_eq!(member(&left.names, "ended_by"), "1");
     let root = Path::new(env!("CARGO_MANIFEST_DIR"));
     assert_eq!(member(&left.names, "root"), format!("{root:?}"));
     let source = checksum(SOURCE.as_bytes());

@@ -20,12 +20,15 @@ fn played(test: &str, folder: &Folder) -> (bool, Vec<String>) {
     let (at, path) = (address(&files), files.display().to_string());
     let lines = our_lines(&said).into_iter();
     let lines = lines.filter(|line| !line.starts_with("replay: "));
-    (
-        succeeds,
-        lines
-            .map(|line| line.replace(&at, "file://DIR").replace(&path, "DIR"))
-            .collect(),
-    )
+    let lines = lines.map(|line| {
+        let line = line.replace(&at, "file://DIR").replace(&path, "DIR");
+        // Where a build has no lines of places, the drop has none.
+        match line.split_once("dropped the last sender   desk") {
+            Some((call, _)) => format!("{call}dropped the last sender   desk"),
+            None => line,
+        }
+    });
+    (succeeds, lines.collect())
 }
 
 /// Asserts that the part of this test fails with these lines, each with the number of a line of
@@ -79,23 +82,24 @@ fn a_loss_that_nobody_was_told_of() {
         panic!("the test fails");
     }
     let wanted = "\
+failed: a_loss_that_nobody_was_told_of at tests/failing.rs:NN: the test fails
 error: `worker` lost 1 of 4 values of `jobs` (capacity 2)
   --> tests/failing.rs:NN:35
 note: the panic, it had not been told by then
   --> tests/failing.rs:NN:9
-  call 7      jobs.send(value 3)   desk                            tests/failing.rs:NN   overwrote value 1, which worker had not read
-  the panic   not told             a_loss_that_nobody_was_told_of  tests/failing.rs:NN   its last receive: call 3, value 0
-  lost: value 1
+  call 7      jobs.send(its 4th value)   desk                            tests/failing.rs:NN   overwrote its 2nd value, which worker had not read
+  the panic   not told                   a_loss_that_nobody_was_told_of  tests/failing.rs:NN   its last receive: call 3, its 1st value
+  lost: its 2nd value
 warning: `log` lost 1 of 4 values of `jobs` (capacity 2)
   --> tests/failing.rs:NN:35
-  call 7   jobs.send(value 3)    desk                            tests/failing.rs:NN   overwrote value 1, which log had not read
-  call 8   dropped: never told   a_loss_that_nobody_was_told_of                        its last receive: call 4, value 0
-  lost: value 1
+  call 7   jobs.send(its 4th value)   desk                            tests/failing.rs:NN   overwrote its 2nd value, which log had not read
+  call 8   dropped: never told        a_loss_that_nobody_was_told_of                        its last receive: call 4, its 1st value
+  lost: its 2nd value
 look: file://DIR/untold.html#call=7
 ";
     let source = include_str!("failing.rs");
     let failed = line_after(source, "// The test fails here.");
-    let at = [SEND, failed, SEND, failed, SEND, SEND];
+    let at = [failed, SEND, failed, SEND, failed, SEND, SEND];
     assert_said("a_loss_that_nobody_was_told_of", &at, wanted);
 }
 
@@ -115,23 +119,24 @@ fn three_receivers_of_a_hundred_are_told_of() {
         panic!("the test fails");
     }
     let wanted = "\
+failed: three_receivers_of_a_hundred_are_told_of at tests/failing.rs:NN: the test fails
 error: receiver 1 (created at tests/failing.rs:NN) lost 1 of 2 values of `orders` (capacity 1)
   --> tests/failing.rs:NN:35
 note: the panic, it had not been told by then
   --> tests/failing.rs:NN:9
-  call 101    orders.send(value 1)   desk                                      tests/failing.rs:NN    overwrote value 0, which receiver 1 had not read
-  the panic   held, never read       three_receivers_of_a_hundred_are_told_of  tests/failing.rs:NN
-  lost: value 0
+  call 101    orders.send(its 2nd value)   desk                                      tests/failing.rs:NN    overwrote its 1st value, which receiver 1 had not read
+  the panic   held, never read             three_receivers_of_a_hundred_are_told_of  tests/failing.rs:NN
+  lost: its 1st value
 warning: receiver 2 (created at tests/failing.rs:NN) lost 1 of 2 values of `orders` (capacity 1)
   --> tests/failing.rs:NN:35
-  call 101    orders.send(value 1)   desk                                      tests/failing.rs:NN    overwrote value 0, which receiver 2 had not read
-  the panic   held, never read       three_receivers_of_a_hundred_are_told_of  tests/failing.rs:NN
-  lost: value 0
+  call 101    orders.send(its 2nd value)   desk                                      tests/failing.rs:NN    overwrote its 1st value, which receiver 2 had not read
+  the panic   held, never read             three_receivers_of_a_hundred_are_told_of  tests/failing.rs:NN
+  lost: its 1st value
 warning: receiver 3 (created at tests/failing.rs:NN) lost 1 of 2 values of `orders` (capacity 1)
   --> tests/failing.rs:NN:35
-  call 101    orders.send(value 1)   desk                                      tests/failing.rs:NN    overwrote value 0, which receiver 3 had not read
-  the panic   held, never read       three_receivers_of_a_hundred_are_told_of  tests/failing.rs:NN
-  lost: value 0
+  call 101    orders.send(its 2nd value)   desk                                      tests/failing.rs:NN    overwrote its 1st value, which receiver 3 had not read
+  the panic   held, never read             three_receivers_of_a_hundred_are_told_of  tests/failing.rs:NN
+  lost: its 1st value
 and 97 more receivers lost 97 values
 look: file://DIR/hundred.html#call=101
 ";
@@ -140,12 +145,17 @@ look: file://DIR/hundred.html#call=101
     let others = line_after(source, "// The others are made here.");
     let failed = line_after(source, "// A hundred were made when");
     let others = [others, SEND, SEND, failed];
-    let at = [&[first, SEND, failed, SEND, failed], &others[..], &others].concat();
+    let at = [
+        &[failed, first, SEND, failed, SEND, failed],
+        &others[..],
+        &others,
+    ]
+    .concat();
     assert_said("three_receivers_of_a_hundred_are_told_of", &at, wanted);
 }
 
 #[test]
-fn a_close_that_a_receiver_missed() {
+fn a_close_that_nobody_has_read_up_to() {
     if is_part() {
         let recorder = Recorder::for_test("closed");
         let (orders, mut audit) = broadcast::channel(4);
@@ -156,22 +166,26 @@ fn a_close_that_a_receiver_missed() {
         receive("audit", &mut audit).unwrap();
         assert_eq!(receive("audit", &mut audit), Err(TryRecvError::Closed));
         std::mem::forget(screen);
+        // The test fails after the close.
         panic!("the test fails");
     }
     let wanted = "\
-error: `orders` closed, and 1 of 2 receivers were told
+failed: a_close_that_nobody_has_read_up_to at tests/failing.rs:NN: the test fails
+warning: `orders` closed, and 1 of 2 receivers were told
   --> tests/failing.rs:NN:35
   call 3   dropped the last sender   desk
   call 5   told: closed              audit  tests/failing.rs:NN   after 1 more value
-  not told: `screen`
+  not that far: `screen`
 yovanelum: no value was lost in 6 calls on 1 channel
 look: file://DIR/closed.html#call=3
 ";
-    assert_said("a_close_that_a_receiver_missed", &[RECEIVE; 2], wanted);
+    let failed = line_after(include_str!("failing.rs"), "// The test fails after");
+    let at = [failed, RECEIVE, RECEIVE];
+    assert_said("a_close_that_nobody_has_read_up_to", &at, wanted);
 }
 
 #[test]
-fn a_watch_whose_changes_were_never_looked_at() {
+fn a_watch_whose_changes_nobody_learned_of() {
     if is_part() {
         let recorder = Recorder::for_test("unseen");
         let (state, worker) = watch::channel("open");
@@ -182,19 +196,23 @@ fn a_watch_whose_changes_were_never_looked_at() {
             block_on(named("desk", async { state.send(text) })).unwrap();
         }
         std::mem::forget((state, worker));
+        // The test fails after the changes.
         panic!("the test fails");
     }
     let wanted = "\
-error: `worker` never looked at 2 of 2 changes of `state`
+failed: a_watch_whose_changes_nobody_learned_of at tests/failing.rs:NN: the test fails
+warning: `worker` never learned of 2 of 2 changes of `state`
   --> tests/failing.rs:NN:50
   call 2   state.send(\"closed\")   desk  tests/failing.rs:NN   the last change
 yovanelum: no value was lost in 2 calls on 1 channel
 look: file://DIR/unseen.html#call=2
 ";
-    let at = line_after(include_str!("failing.rs"), "// The state is sent here.");
+    let source = include_str!("failing.rs");
+    let at = line_after(source, "// The state is sent here.");
+    let failed = line_after(source, "// The test fails after the changes.");
     assert_said(
-        "a_watch_whose_changes_were_never_looked_at",
-        &[at; 2],
+        "a_watch_whose_changes_nobody_learned_of",
+        &[failed, at, at],
         wanted,
     );
 }
@@ -212,7 +230,7 @@ fn a_folder_that_cannot_be_written_is_said_in_one_line() {
     fs::create_dir(folder.0.join("built")).unwrap();
     fs::write(folder.0.join("built/yovanelum"), "a file, and no folder").unwrap();
     let (succeeds, said) = played(test, &folder);
-    let [report, fault] = &said[..] else {
+    let [_, report, fault] = &said[..] else {
         panic!("{said:#?}");
     };
     assert!(!succeeds);
@@ -236,7 +254,7 @@ fn a_name_of_300_characters_has_its_files() {
     let test = "a_name_of_300_characters_has_its_files";
     let folder = Folder::new(test);
     let (succeeds, said) = played(test, &folder);
-    assert!(!succeeds && said[1].starts_with("look: "), "{said:#?}");
+    assert!(!succeeds && said[2].starts_with("look: "), "{said:#?}");
     let written = fs::read_dir(files(&folder.0)).unwrap();
     assert_eq!(written.count(), 3, "journal, names and page");
 }
@@ -248,6 +266,7 @@ fn result(fails: bool) -> Result<(), TryRecvError> {
     if !fails {
         orders.send(1).unwrap();
     }
+    // The error is passed on here.
     recorder.save_on_err(audit.try_recv().map(drop))
 }
 
@@ -259,14 +278,19 @@ fn a_test_that_returns_an_error_is_told_of() {
     }
     let test = "a_test_that_returns_an_error_is_told_of";
     let folder = Folder::new(test);
-    let wanted = [
-        "yovanelum: no value was lost in 3 calls on 1 channel",
-        "look: file://DIR/result.html#call=1",
-    ];
-    assert_eq!(
-        played(test, &folder),
-        (true, wanted.map(String::from).into())
+    let at = line_after(
+        include_str!("failing.rs"),
+        "// The error is passed on here.",
     );
+    let wanted = format!(
+        "failed: {test} at tests/failing.rs:{at} returned an error; call 1 was channel 0: try_recv(): Empty
+error: `{test}` found nothing: nothing was sent to channel 0
+  --> tests/failing.rs:{at}:32
+  call 1   found nothing   {test}  tests/failing.rs:{at}   channel 0: try_recv()
+look: file://DIR/result.html#call=1"
+    );
+    let wanted = wanted.lines().map(String::from).collect();
+    assert_eq!(played(test, &folder), (true, wanted));
     assert!(files(&folder.0).join("result.journal").exists());
 }
 
@@ -314,7 +338,11 @@ fn a_second_panic_while_one_unwinds_writes_nothing() {
         "yovanelum: no value was lost in 2 calls on 1 channel",
         "look: file://DIR/first.html#call=2",
     ];
-    assert_eq!((succeeds, said), (false, wanted.map(String::from).into()));
+    // The first line has the last panic of the thread.
+    assert_eq!(
+        (succeeds, &said[1..]),
+        (false, &wanted.map(String::from)[..])
+    );
     let files = fs::read_dir(files(&folder.0)).unwrap();
     assert_eq!(files.count(), 3, "journal, names and page of the first");
 }
@@ -337,7 +365,7 @@ fn the_page_is_the_one_that_page_open_writes() {
     let folder = Folder::new(test);
     let (succeeds, said) = played(test, &folder);
     assert!(
-        !succeeds && said[1] == "look: file://DIR/a%252Fb.html#call=1",
+        !succeeds && said[2] == "look: file://DIR/a%252Fb.html#call=1",
         "{said:#?}"
     );
     let journal = files(&folder.0).join("a%2Fb.journal");

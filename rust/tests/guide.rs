@@ -66,10 +66,13 @@ fn source() -> String {
 fn said_in_the_guide(folder: &Path) -> String {
     let told = between(START_PAGE, "```text\nassertion", "```");
     let files = files(folder).display().to_string();
+    // A report has 40 characters of a longer name.
+    let shown = format!("{}…", &TEST[..40]);
     let told = format!("assertion{told}")
         .replace("/bus/target/yovanelum/bus/test-bus", &files)
         .replace("-p bus --test bus", "-p yovanelum --test guide")
-        .replace(&format!("-- {NAME} "), &format!("-- {TEST} "));
+        .replace(&format!("-- {NAME} "), &format!("-- {TEST} "))
+        .replace(&format!("failed: {NAME} "), &format!("failed: {shown} "));
     // There the program begins at line 6.
     let here = line_after(include_str!("guide.rs"), START.trim_end());
     relocated(&told, ("tests/bus.rs", 6), ("tests/guide.rs", here))

@@ -9,30 +9,30 @@ mod support;
 #[path = "support/refusing.rs"]
 mod refusing;
 
-#[path = "../src/large_pages.rs"]
+#[path = "../src/core/large_pages.rs"]
 mod large_pages;
 
 #[allow(dead_code)]
 mod shim {
-    #[path = "../../src/shim/alloc.rs"]
+    #[path = "../../src/core/shim/alloc.rs"]
     pub mod alloc;
-    #[path = "../../src/shim/boxed.rs"]
+    #[path = "../../src/core/shim/boxed.rs"]
     mod boxed;
-    #[path = "../../src/shim/casts.rs"]
+    #[path = "../../src/core/shim/casts.rs"]
     pub mod casts;
-    #[path = "../../src/shim/fallible.rs"]
+    #[path = "../../src/core/shim/fallible.rs"]
     pub mod fallible;
-    #[path = "../../src/shim/itoa.rs"]
+    #[path = "../../src/core/shim/itoa.rs"]
     pub mod itoa;
-    #[path = "../../src/shim/memchr.rs"]
+    #[path = "../../src/core/shim/memchr.rs"]
     pub mod memchr;
-    #[path = "../../src/shim/slices.rs"]
+    #[path = "../../src/core/shim/slices.rs"]
     mod slices;
-    #[path = "../../src/shim/snapshot.rs"]
+    #[path = "../../src/core/shim/snapshot.rs"]
     pub mod snapshot;
-    #[path = "../../src/shim/string.rs"]
+    #[path = "../../src/core/shim/string.rs"]
     mod string;
-    #[path = "../../src/shim/vec.rs"]
+    #[path = "../../src/core/shim/vec.rs"]
     mod vec;
 
     use crate::large_pages;

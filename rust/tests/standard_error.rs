@@ -5,7 +5,7 @@ mod support;
 
 use std::fs;
 use std::path::Path;
-use support::parts::{self, Folder, is_part, our_lines, replay_line};
+use support::parts::{self, Folder, is_part, line_after, our_lines, replay_line};
 use yovanelum::{Recorder, broadcast};
 
 /// Returns whether the part of this test succeeds, and the lines of this crate that it writes to
@@ -49,7 +49,14 @@ fn a_test_that_fails_says_what_happened_and_where_to_look() {
     let folder = Folder::new("fails");
     let test = "a_test_that_fails_says_what_happened_and_where_to_look";
     let (succeeds, said) = played(test, &folder.0, None);
-    assert_eq!((succeeds, said), (false, kept("fails", test, &folder.0, 1)));
+    // Of the name of the test's thread, a report has 40 characters.
+    let line = line_after(include_str!("standard_error.rs"), "if name == \"fails\" {");
+    let failed = format!(
+        "failed: {}… at tests/standard_error.rs:{line}: the test fails",
+        &test[..40]
+    );
+    let wanted = [vec![failed], kept("fails", test, &folder.0, 1)].concat();
+    assert_eq!((succeeds, said), (false, wanted));
 }
 
 #[test]

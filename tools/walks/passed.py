@@ -3,7 +3,7 @@ import re
 from collections import Counter
 
 PROVED = re.compile(r"/(rw_\w+)/(.*)\.rs$")
-CRATE = re.compile(r"/rust/src/(?!shim|source|bin)(.*\.rs)$")
+CRATE = re.compile(r"/rust/src/(?!(?:core/)?(?:shim|source)|bin)(.*\.rs)$")
 PARTS = {"LT": "<", "GT": ">", "RF": "&", "BP": "*", "C": ",", "LP": "(", "RP": ")"}
 
 

@@ -5,7 +5,7 @@
 //! Start reading at `specs/SessionReport.antt`, which defines what is written first, and at `specs/Report.antt`, which defines
 //! what commands write at the places of a run. Continue with `sessions.rt`, `reading.rt` (the script), `console.rt` (the
 //! commands) and `walk.rt` (the run at a place).
-//! What stands on it: `rw_page`, `rw_program`.
+//! What stands on it: `rw_answers`, `rw_program`.
 #![tactic(auto)]
 
 mod command;

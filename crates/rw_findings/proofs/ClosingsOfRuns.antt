@@ -1,9 +1,6 @@
 -- The closings of a run: its entries, and what is documented at its places.
-use Rattle.std.proofs.Common.{◌≡◌, ℕ, ◌+◌, ◌<◌, ◌≤◌, true, cond, List, [], length, get_or, ap, sym, ◌∙◌, subst, arith}
-use Rattle.std.specs.Prelude.{IfOk, Option, Some, None, Result, Ok, Err, unwrap_or, nat_le}
-use Rattle.std.proofs.lemmas.Bool.Decides.{nat_tests}
-use Rattle.rw_navigator.specs.Moves.{landing}
-use Rattle.rw_navigator.specs.declared.moves.Move.TheVariants.{Goto}
+use Rattle.std.proofs.Common.{◌≡◌, ℕ, ◌+◌, ◌<◌, List, [], length, get_or, ap, sym, ◌∙◌, subst}
+use Rattle.std.specs.Prelude.{IfOk, Option, Result, Ok, Err}
 use mathlib.Core.Path.{fun_ext}
 use Rattle.rw_journal.specs.Run.{Run}
 use Rattle.rw_law.proofs.Journals.{after_more}
@@ -24,12 +21,6 @@ use Rattle.rw_findings.proofs.ClosingRuns.{AreKept, kept_on, all_closings}
 pub from_both : {X Y : Type 0} (r : Result X Y) (P Q R : X → Type 0) → ((x : X) → P x → Q x → R x) → IfOk r P → IfOk r Q → IfOk r R
 from_both (Ok x) P Q R follows one other = follows x one other
 from_both (Err y) P Q R follows one other = tt
-
--- going to a place that is there leads to it
-pub goes : (last from to : ℕ) → to ≤ last → landing last from (Goto to) ≡ to
-goes last from to within = ap (λ b. unwrap_or (cond b (Some to) None) from) (le_is to last within) where
-  le_is : (m n : ℕ) → m ≤ n → nat_le m n ≡ true
-  le_is m n h = grind (arith, nat_tests)
 
 module _ {V : Type 0} where
   -- one entry of a run, where this is shown after it

@@ -30,6 +30,7 @@ pub mod PeakPlaces
 pub mod PeakSteps
 pub mod PeakSums
 pub mod ValuePlaces
+pub mod TrafficPlaces
 pub mod OneList
 pub mod UniqueFindings
 pub mod UniqueLives

@@ -17,6 +17,7 @@ use Rattle.rw_world.specs.Lists.{map_at}
 use Rattle.rw_world.specs.Machines.{ChanShown, of_chan}
 use Rattle.rw_world.specs.Openings.{opened_channel}
 use Rattle.rw_world.specs.Records.{ShowsAtPlaces}
+use Rattle.rw_world.specs.Specified.{WorldEntry}
 use Rattle.rw_world.specs.declared.channels.ChanCall.{ChanCall}
 use Rattle.rw_world.specs.declared.channels.ChanCall.TheVariants as call_of
 use Rattle.rw_world.specs.declared.opening.Spec.{Spec}
@@ -276,6 +277,13 @@ module _ {V : Type 0} where
               | inr nothing ↦ absurd (newest_there y (length old) (allowed_is shows run c (p + 1) y there) (omega (arith, came.count, long)) nothing)
             ]
         by_step (inr came) (inr one) = more came one.0 one.2 one.3
+
+    -- what a call on another channel leaves
+    pub values_there : (p : ℕ) (e : WorldEntry V) (x : ChanShown V) (values : List (ChannelValue V)) → p < length run.entries
+        → e ≡ get_or run.entries p e → slice_get (shown_at run p) c ≡ Some x → e.call.channel ≢ c → AreValuesTo run c p values
+        → AreValuesTo run c (p + 1) values
+    values_there p e x values within read here apart are =
+        rest p x x values values within here (channel_there shows run c p e within read apart ∙ here) are refl refl refl
 
     -- ---- at the opening
 

@@ -10,5 +10,6 @@ pub mod Following
 pub mod Lives
 pub mod Peaks
 pub mod Values
+pub mod Traffic
 pub mod Receivers
 pub mod Laws

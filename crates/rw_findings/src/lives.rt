@@ -4,4 +4,5 @@ mod finding;
 mod life;
 
 pub use finding::lives_of;
+pub(crate) use finding::{add_made, count_call, open_lives};
 pub use life::Life;

@@ -5,5 +5,6 @@ mod finding;
 mod value;
 
 pub use counting::{values_between, values_by};
+pub(crate) use finding::note_state;
 pub use finding::values_of;
 pub use value::ChannelValue;

@@ -1,3 +1,4 @@
+mod ClapLemmas
 pub mod FileRuns
 pub mod Forgetting
 pub mod Telling

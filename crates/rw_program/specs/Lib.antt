@@ -7,5 +7,5 @@ pub mod Contents
 pub mod Verbs
 pub mod Threads
 pub mod CommandLine
-pub mod Told
+pub mod Clap
 pub mod Words

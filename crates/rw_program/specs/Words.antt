@@ -3,12 +3,10 @@ use Rattle.std.specs.Prelude.{◌≡◌, ◌⊎◌, ℕ, List, Option, None, Som
 use Rattle.rw_lines.specs.declared.streams.StreamFault.TheVariants.{Read, NoMemory}
 use Rattle.rw_console.specs.ScriptReading.{HasMark}
 use Rattle.rw_console.specs.SessionReport.{outcome, report}
-use Rattle.rw_program.specs.declared.word_faults.WordsFault.{WordsFault}
 use Rattle.rw_program.specs.CommandLine.{Wish, session, over, threads, wish_in}
 use Rattle.rw_program.specs.Runs.{Runs}
 use Rattle.rw_program.specs.Statuses.{Tells, error_line_of_unread}
 use Rattle.rw_program.specs.Threads.{RecordsThreads}
-use Rattle.rw_program.specs.Told.{told_of}
 use Rattle.rw_program.specs.Verbs.{DoneBy}
 
 -- the session of some bytes, or the verb or the threads over some file, or a file that can't be opened
@@ -21,10 +19,18 @@ Serves (threads file) line status = Tells line status (Err Read) ⊎ RecordsThre
 abbrev pub EndsAs : Wish → List ℕ → ℕ → Type 0
 EndsAs wish line status = Serves wish line status ⊎ Tells line status (Err NoMemory)
 
--- what words ask for is done, or they are refused: the text of a fault is told, with status 2
+-- words are refused, with status 2; the line is clap's
+abbrev pub IsRefused : List ℕ → ℕ → Type 0
+IsRefused line status = status ≡ 2
+
+-- that, or memory ran out
+abbrev pub Refuses : List ℕ → ℕ → Type 0
+Refuses line status = IsRefused line status ⊎ Tells line status (Err NoMemory)
+
+-- what words ask for is done, or they are refused
 abbrev pub EndsBy : Option Wish → List ℕ → ℕ → Type 0
 EndsBy (Some wish) line status = Serves wish line status
-EndsBy None line status = (fault : WordsFault) × (line ≡ told_of fault) × (status ≡ 2)
+EndsBy None line status = IsRefused line status
 
 -- that for these words, of which the first is the program's name, or memory ran out
 abbrev pub EndsFor : List (List ℕ) → List ℕ → ℕ → Type 0

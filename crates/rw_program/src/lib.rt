@@ -8,9 +8,10 @@
 //! `rw_console`'s `specs/SessionReport.antt` defines them, and for a file `specs/Endings.antt` and `specs/Threads.antt`. Where a
 //! fault of a stream, of memory or of threads stops them, they have written a prefix of that, and line and status report the fault.
 //! Start reading at `program.rt`, and continue with `files.rt`.
-//! What stands on it: `rw_ttd`.
+//! What stands on it: `rw_ttd`, `test_words`.
 #![tactic(auto)]
 
+mod clap_command;
 mod endings;
 mod files;
 mod flags;
@@ -19,14 +20,12 @@ mod program;
 mod reading;
 mod statuses;
 mod threads;
-mod usage;
-mod word_faults;
 mod words;
 
+pub use clap_command::command_line;
 pub use endings::Ended;
 pub use files::{check_file, debug_file, over_file, record_file, salvage_file};
 pub use inputs::read_whole;
 pub use program::{over_opened, perform, run, session_on, threads_over_opened};
 pub use statuses::{error_line, status};
-pub use word_faults::{Topic, WordsFault};
-pub use words::{Asked, Command, Verb, read_words, refuse_words};
+pub use words::{Asked, Command, RefusedWords, Verb, read_words, refuse_words};

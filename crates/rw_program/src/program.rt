@@ -17,7 +17,7 @@ ghost use Rattle.rw_program.specs.Words.{EndsAs, EndsFor, IsEnd};
 use crate::endings::Ended;
 use crate::files::over_file;
 use crate::threads::record_threads;
-use crate::words::{Asked, Verb, read_words, refuse_words};
+use crate::words::{Asked, RefusedWords, Verb, read_words, refuse_words};
 use rw_console::session;
 use rw_lines::StreamFault;
 use std::alloc::Global;
@@ -150,7 +150,7 @@ pub fn perform<R: Files + Input + Print + AllocGlobal + Threads + Wait + Sync>(
 {
     match read_words(words) {
         Ok(asked) => answer(rt, asked),
-        Err(fault) => refuse_words(rt.alloc(), &fault),
+        Err(RefusedWords) => refuse_words(rt.alloc(), words),
     }
 }
 

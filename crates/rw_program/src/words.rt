@@ -1,15 +1,14 @@
 //! The words of the command line.
 
 ghost use Rattle.std.specs.Prelude.{◌≡◌, None, Some, drop, option_map, IfOk, OnErr};
-ghost use Rattle.rw_program.specs.Files.{TellsLine};
 ghost use Rattle.rw_program.specs.Lines.{line_of};
-ghost use Rattle.rw_program.specs.Told.{told_of};
+ghost use Rattle.rw_program.specs.Words.{Refuses};
 ghost use Rattle.rw_program.specs.CommandLine.{command_named, file_behind, file_in, given, is_end, threads_in, wish_in, wish_by, wish_of, wish_over};
 
+use crate::clap_command::text_of_refused;
 use crate::endings::Ended;
 use crate::flags::{DASHES, THREADS, is_flag};
 use crate::statuses::REFUSED_WORDS;
-use crate::word_faults::{WordsFault, fault_in, fault_without_command};
 use std::alloc::Global;
 
 /// What to do with a file.
@@ -37,8 +36,12 @@ pub enum Asked<'a> {
     Threads(&'a str),
 }
 
+/// The words ask for nothing that the program does. [`refuse_words`] returns what is said of them.
+#[derive(Clone, Copy, Debug, PartialEq, Eq)]
+pub struct RefusedWords;
+
 /// Returns the command that a word names.
-pub(crate) fn command_named(word: &str) -> Option<Command>
+fn command_named(word: &str) -> Option<Command>
     ensures { result ≡ command_named word.now }
 {
     if word == "session" {
@@ -144,45 +147,36 @@ fn asked_by(command: Command, words: &[String]) -> Option<Asked<'_>>
     }
 }
 
-/// Returns what a command and the words behind it ask for, or what is wrong with these.
-fn asked_or_fault(command: Command, words: &[String]) -> Result<Asked<'_>, WordsFault<'_>>
-    ensures asked { IfOk result (λ asked. wish_by command (given words.now) ≡ Some (wish_of asked)) }
-    ensures refused { OnErr result (wish_by command (given words.now) ≡ None) }
-{
-    match asked_by(command, words) {
-        Some(asked) => Ok(asked),
-        None => Err(fault_in(command, words)),
-    }
-}
-
 /// Returns what the words behind the program's name ask for.
-fn asked_in(words: &[String]) -> Result<Asked<'_>, WordsFault<'_>>
-    ensures asked { IfOk result (λ asked. wish_in (given words.now) ≡ Some (wish_of asked)) }
-    ensures refused { OnErr result (wish_in (given words.now) ≡ None) }
+fn asked_in(words: &[String]) -> Option<Asked<'_>>
+    ensures { option_map wish_of result ≡ wish_in (given words.now) }
 {
     match words {
-        [] => Err(WordsFault::NoCommand),
+        [] => None,
         [word, rest @ ..] => match command_named(word) {
-            Some(command) => asked_or_fault(command, rest),
-            None => Err(fault_without_command(word, rest)),
+            Some(command) => asked_by(command, rest),
+            None => None,
         },
     }
 }
 
 /// Returns what the words of the command line ask for. The first is the program's name.
-pub fn read_words(words: &[String]) -> Result<Asked<'_>, WordsFault<'_>>
+pub fn read_words(words: &[String]) -> Result<Asked<'_>, RefusedWords>
     ensures asked { IfOk result (λ asked. wish_in (drop 1 (given words.now)) ≡ Some (wish_of asked)) }
     ensures refused { OnErr result (wish_in (drop 1 (given words.now)) ≡ None) }
 {
     match words {
-        [_, rest @ ..] => asked_in(rest),
-        [] => Err(WordsFault::NoCommand),
+        [_, rest @ ..] => match asked_in(rest) {
+            Some(asked) => Ok(asked),
+            None => Err(RefusedWords),
+        },
+        [] => Err(RefusedWords),
     }
 }
 
-/// Returns the end if the words are refused: the text that says why, or that memory ran out.
-pub fn refuse_words(alloc: Global, fault: &WordsFault<'_>) -> Ended
-    ensures { TellsLine (line_of result) result.status (told_of fault.now) 2 }
+/// Returns the end if the words are refused: what clap says of them, or that memory ran out.
+pub fn refuse_words(alloc: Global, words: &[String]) -> Ended
+    ensures { Refuses (line_of result) result.status }
 {
-    Ended::told(fault.text(alloc), REFUSED_WORDS)
+    Ended::told(text_of_refused(alloc, words), REFUSED_WORDS)
 }

@@ -16,7 +16,7 @@ const MOST_TEXT = 300;
 const MOST_CHANGES = 3;
 
 // What the line of a call begins with. Accounts of earlier versions say `step 3`.
-const STEP = /^ {2}((?:call|step) \d+|before the window|the panic|the error|the end)/;
+const STEP = /^ {2}((?:call|step) \d+|before the window|a panic|the panic|the error|the end|the start)/;
 
 // A text with the place in the sources that stands in it as a link, after what is before it in its line.
 function withSource(run, text, place, before) {
@@ -52,7 +52,7 @@ function unlookedLine(run, { channel, receiver, changes }) {
 }
 
 function factPart(run, fact) {
-  const more = fact.kind === "unlooked" && !run.isBeginning ? unlookedLine(run, fact) : [];
+  const more = fact.kind === "unlearned" && !run.isBeginning ? unlookedLine(run, fact) : [];
   return element("section", { class: "fact", "data-kind": fact.kind }, ...fact.text.map((text, index) => lineOf(run, fact, text, index)), ...more);
 }
 

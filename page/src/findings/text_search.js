@@ -2,57 +2,48 @@
 // replies. All hits are found, so that they can be counted, and marked on the strip.
 
 import { visible } from "../base/text.js";
-import { callText, replyText, textOf } from "./sentence.js";
 
-// How many calls are looked at before the page may do something else.
-const AT_ONCE = 20_000;
+// Texts of letters of ASCII alone are shown as they are.
+const PLAIN = /^[ -~]*$/;
+const NUMBER = /^(0|[1-9]\d{0,18})$/;
 
 function folded(text) {
   return text.toLowerCase();
 }
 
-// What is looked for, and which of the run's things have it in their names.
-class Wanted {
-  constructor(run, text) {
-    this.run = run;
-    this.text = folded(visible(text));
-    const has = name => this.isIn(name);
-    this.actors = run.actors.names.map(has);
-    this.channels = run.channels.map((_, channel) => has(run.names.channel(channel)));
-    this.handles = run.lives.map((lives, channel) => lives.map(({ handle }) => has(run.names.handle(channel, handle) ?? "")));
-    this.locations = run.names.tables.locations.map(([file, line]) => has(`${file}:${line}`));
-  }
+// Whether a text as the page shows it has this one, where there are very many texts.
+function finder(text) {
+  const isPlain = PLAIN.test(text);
+  const pattern = new RegExp(text.replace(/[.*+?^${}()|[\]\\/]/g, "\\$&"), "i");
+  return shown => (isPlain && PLAIN.test(shown) ? pattern.test(shown) : folded(visible(shown)).includes(text));
+}
 
-  isIn(text) {
-    return folded(text).includes(this.text);
-  }
+// The numbers of the values whose texts have what is looked for, in their order. An object has its keys so, but for those above 2^32.
+function valuesWith(has, table) {
+  const found = [];
+  for (const number in table) if (has(table[number]) && NUMBER.test(number)) found.push(BigInt(number));
+  return found.sort((a, b) => (a < b ? -1 : Number(a > b)));
+}
 
-  isAt(place) {
-    const { actors, channels, handles } = this.run.columns;
-    if (this.actors[actors[place]] || this.channels[channels[place]] || this.handles[channels[place]][handles[place]]) return true;
-    return this.isInCall(this.run.entry(place)) || this.isInSource(place);
-  }
-
-  isInCall(entry) {
-    return this.isIn(textOf(entry, this.run.names) ?? "") || this.isIn(callText(entry, this.run)) || this.isIn(replyText(entry, this.run));
-  }
-
-  isInSource(place) {
-    const source = this.run.sourceOf(place);
-    return source !== undefined && this.isIn(`${source[0]}:${source[1]}`);
-  }
+// Which of a run's things have the text in their names as the page shows them, by their numbers. In the calls and their replies the engine looks for it.
+function wantedOf(run, text) {
+  const { names, actors, channels, lives } = run;
+  const has = name => folded(name).includes(text);
+  const hasShown = finder(text);
+  return {
+    text,
+    actors: Uint8Array.from(actors.names, name => Number(has(name))),
+    channels: Uint8Array.from(channels, (_, channel) => Number(has(names.channel(channel)))),
+    locations: Uint8Array.from(names.tables.locations.map(([file, line]) => Number(has(`${file}:${line}`)))),
+    handles: lives.map((lives, channel) => lives.filter(({ handle }) => has(names.handle(channel, handle) ?? "")).map(({ handle }) => BigInt(handle))),
+    values: channels.map((_, channel) => valuesWith(hasShown, names.tables.values[channel] ?? {})),
+  };
 }
 
 // Returns the places of all calls that have a text, or null where `isOver` says that nobody waits for them any more.
 export async function hitsOf(run, text, isOver) {
-  const wanted = new Wanted(run, text);
-  const hits = [];
-  for (let place = run.lead + 1; place <= run.lastPlace; place++) {
-    if (wanted.isAt(place)) hits.push(place);
-    if (place % AT_ONCE === 0) await new Promise(done => setTimeout(done));
-    if (isOver()) return null;
-  }
-  return hits;
+  const hits = await run.search(wantedOf(run, folded(visible(text))));
+  return isOver() ? null : Array.from(hits);
 }
 
 // The console's conditions, with what comes after their word: a channel, a handle of it, an actor, or a number or word as it is.

@@ -22,7 +22,11 @@ function placed(found, other) {
   const differing = placesWhere(kinds, kind => kind > 0);
   const only = placesWhere(back, place => place === 0).filter(place => place > other.lead);
   const partnersOfThem = differing.map(place => partners[place]).filter(place => place > 0);
-  return { ...found, axis: new OtherAxis(partners, other.lastPlace), differing, differingThere: [...partnersOfThem, ...only].sort((a, b) => a - b) };
+  const [here = null, there = only[0] ?? null] = [differing[0], partners[differing[0]]];
+  return {
+    ...found, axis: new OtherAxis(partners, other.lastPlace), differing, differingThere: [...partnersOfThem, ...only].sort((a, b) => a - b),
+    first: here === null && there === null ? null : { here, there },
+  };
 }
 
 // The bytes as 14 hexadecimal digits, by which a link tells one run from another: two sums of them, each multiplied as FNV-1a does.
@@ -74,9 +78,7 @@ export class Comparing {
     tell();
     const other = await during(["comparing with ", outside(source.name)], () => this.opened(source));
     if (other === null || walk !== this.page.walk) return;
-    const { journal, channels, lastPlace, names } = other;
-    const found = await during(["comparing with ", outside(source.name)],
-      () => walk.run.client.request("against", { journal, channels, lastPlace }, walk.run.names.parts, names.parts));
+    const found = await during(["comparing with ", outside(source.name)], () => walk.run.against(other));
     if (walk !== this.page.walk) return;
     const compared = { ...placed(found, other), digest: digestOf(source.bytes) };
     this.show(new OtherPicture(other, walk.screen, compared), source);

@@ -89,6 +89,7 @@ export function namesFor(run, bytes, file, isBeginning = false) {
   const what = file === undefined ? "The file of names" : outside(file);
   try {
     const names = readNames(new TextDecoder().decode(bytes));
+    names.bytes = bytes;
     const why = isBeginning ? null : misfit(names, run);
     if (why === null) return names;
     tell(what, ` isn't of this run: ${why}.`);

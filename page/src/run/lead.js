@@ -50,7 +50,7 @@ export function utc(wall) {
   return new Date(wall).toISOString().slice(0, -1).replace("T", " ");
 }
 
-// When the call with a stamp was made, in words and as JSON has it, or null. Between two times that are known it is by the stamps.
+// When the call with a stamp was made, in words, or null. Between two times that are known it is by the stamps.
 export function timeOf(window, times, stamp) {
   if (!window) return null;
   // The dump may have the stamp of the last call, whose own time is before it.
@@ -62,10 +62,7 @@ export function timeOf(window, times, stamp) {
   const [wall, monotonic] = [1, 2].map(i => between(before[i], after[i], stamp - before[0], after[0] - before[0]));
   const isSameDay = Math.floor(wall / DAY) === Math.floor(dump[1] / DAY);
   const left = Math.max(0, dump[2] - monotonic);
-  return {
-    text: `at ${utc(wall).slice(isSameDay ? 11 : 0)} UTC, ${left < 1_000 ? "at the dump" : `${duration(left)} before the dump`}`,
-    iso: new Date(wall).toISOString(),
-  };
+  return `at ${utc(wall).slice(isSameDay ? 11 : 0)} UTC, ${left < 1_000 ? "at the dump" : `${duration(left)} before the dump`}`;
 }
 
 function callsOf(lead, length) {

@@ -26,10 +26,6 @@ function isLocation(value) {
   return isList(value, () => true) && value.length === 3 && isText(value[0]) && isNumber(value[1]) && isNumber(value[2]);
 }
 
-function isMaker(value) {
-  return isList(value, () => true) && value.length === 2 && (value[0] === null || isText(value[0])) && isNumber(value[1]);
-}
-
 function isNumberOrNull(value) {
   return value === null || isNumber(value);
 }
@@ -107,6 +103,8 @@ function lookUp(table, key) {
   return table !== undefined && Object.hasOwn(table, key) ? table[key] : undefined;
 }
 
+const NO_BYTES = new Uint8Array();
+
 function named(table, number, otherwise) {
   return visible(lookUp(table, number) ?? otherwise);
 }
@@ -114,14 +112,14 @@ function named(table, number, otherwise) {
 export class Names {
   /** @param {any} tables */
   constructor(tables = {}) {
+    // The text that the engine reads them from, which is empty where there is none.
+    this.bytes = NO_BYTES;
     const { core = "", actors = {}, channels = {}, values = {}, handles = {}, locations = [], made = {}, calls = {}, tasks = {} } = tables;
-    const { waiting = [], journal = null, root = null, made_by: makers, unnamed, window = null, times = [] } = tables;
+    const { waiting = [], journal = null, root = null, window = null, times = [] } = tables;
     // Why the run begins in a window, and what was before it; and when some of its calls were made.
     this.window = window;
     this.times = times;
     this.tables = { actors, channels, values, handles, locations, made, calls, tasks };
-    // Who made channels, and who has no name of its own, say what is the same in another run. They are used as far as they have their form.
-    Object.assign(this.tables, { madeBy: isTable(makers, isMaker) ? makers : {}, unnamed: isList(unnamed, isNumber) ? unnamed : [] });
     this.core = visible(core);
     /** @type {Account | null} what was found in the run, in words */
     this.account = known(tables.account);
@@ -188,12 +186,6 @@ export class Names {
   // Where one of a channel's calls was made in the sources, as file, line and column, or undefined.
   calledAt(channel, index) {
     return this.place(lookUp(this.tables.calls, channel)?.[index]);
-  }
-
-  // What the account of a run needs of these names where they have none.
-  get parts() {
-    const { tables, waited, waiting, ending, window, times } = this;
-    return { tables, waited, waiting, ending, window, times };
   }
 
   // The name of a channel's call, which is its word but for two calls that wait.

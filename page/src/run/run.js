@@ -5,56 +5,49 @@ import { Actors } from "./actors.js";
 import { placeUpTo, readEntry } from "./entries.js";
 import { behindLead, lostBefore, numberOf, timeOf, windowOf } from "./lead.js";
 import { Losses } from "./losses.js";
+import { KINDS } from "./kinds.js";
 import { MARK_NAMES } from "./marks.js";
-import { Scanner } from "./scanner.js";
 import { readStates } from "./states.js";
 import { Values } from "./values.js";
 import { waitsOf } from "./waiting.js";
 
 const SENT = MARK_NAMES.indexOf("sent");
-const SPACE = 32;
-const LINE_END = 10;
+// Past every place and every actor.
+const NONE = 2 ** 32 - 1;
+// How many numbers the list has for each handle: its channel and number, its kind, where and by whom it was made, where it was dropped, and the index
+// past its callers.
+const OF_HANDLE = 7;
 
-// The debugger's list of a run's handles: a line for each, by channel, and then by number. It is read here and not in the worker, since very many
-// handles would take long to be copied as objects.
+// The list of a run's handles, by channel, and then by number. `callers` has pairs: an actor, and how many calls it made with the handle.
 class Listed {
   // Takes over what the list says of each of these handles. Those that were never dropped live to the place past the last.
   /** @param {Life[][]} lives */
-  constructor(bytes, lives, past) {
-    this.bytes = bytes;
-    const scanner = new Scanner(bytes);
-    while (scanner.at < bytes.length) {
-      scanner.skipBehind(SPACE);
-      const life = lives[scanner.number()][scanner.number()];
-      life.kind = scanner.word().replace("-", " ");
-      life.from = scanner.number();
-      life.maker = scanner.numberOrNone();
-      life.to = scanner.numberOrNone() ?? past;
-      life.callersAt = scanner.at;
-      scanner.goBehind(LINE_END);
+  constructor(handles, callers, lives, past) {
+    this.handles = handles;
+    this.callers = callers;
+    for (let at = 0; at < handles.length; at += OF_HANDLE) {
+      const life = lives[handles[at]][handles[at + 1]];
+      life.kind = KINDS[handles[at + 2]];
+      life.from = handles[at + 3];
+      life.maker = handles[at + 4] === NONE ? null : handles[at + 4];
+      life.to = handles[at + 5] === NONE ? past : handles[at + 5];
+      life.listedAt = at;
     }
   }
 
   // How many calls each actor made with a handle.
-  callersOf({ callersAt }) {
-    const scanner = new Scanner(this.bytes);
-    const callers = [];
-    for (scanner.at = callersAt; this.bytes[scanner.at - 1] !== LINE_END;) callers.push({ actor: scanner.number(), calls: scanner.number() });
-    return callers;
+  callersOf({ listedAt }) {
+    const [start, end] = [this.handles[listedAt - 1] ?? 0, this.handles[listedAt + OF_HANDLE - 1]];
+    return Array.from({ length: (end - start) / 2 }, (_, i) => ({ actor: this.callers[start + 2 * i], calls: this.callers[start + 2 * i + 1] }));
   }
 }
 
-// In characters: the output of one request, the states that are kept, and as a first guess a state without values, and a value in it.
-const MOST_ASKED = 8 << 20;
-const MOST_KEPT = 16 << 20;
-const SHORT_STATE = 1000;
-const VALUE = 8;
+// In numbers: the answer to one request, the states that are kept, and as a first guess a state.
+const MOST_ASKED = 2 << 20;
+const MOST_KEPT = 4 << 20;
+const STATE = 1000;
 
 const decoder = new TextDecoder();
-
-function longestState(channels) {
-  return channels.reduce((length, channel) => length + VALUE * (channel.capacity ?? 1), SHORT_STATE);
-}
 
 // How many entries of its channel come before each entry.
 function ordersOf(channels, count) {
@@ -108,11 +101,13 @@ export class Run {
     this.receiverCounts = this.countReceivers();
     this.bindings = {};
     this.actorCount = this.columns.actorCount;
+    // The text of names that the engine has for the run, and the request that passed it on.
+    this.named = { bytes: names.bytes, request: Promise.resolve() };
     this.rename(names);
     this.states = new Map(opened.states.map(state => [state.place, state]));
     this.states.set(0, opened.opening);
     this.states.set(this.lastPlace, opened.ending);
-    this.stateLength = longestState(this.channels);
+    this.stateLength = STATE;
   }
 
   rename(names) {
@@ -162,7 +157,7 @@ export class Run {
 
   // When a call was made, in words, or null.
   timeOf({ stamp }) {
-    return timeOf(this.names.window, this.names.times, Number(stamp))?.text ?? null;
+    return timeOf(this.names.window, this.names.times, Number(stamp));
   }
 
   // By how many values a receiver lags in a state.
@@ -295,10 +290,10 @@ export class Run {
     return this.finding;
   }
 
-  take({ closings, totals, lives, columns }) {
+  take({ closings, totals, handles, callers, columns }) {
     this.closings = closings;
     this.totals = totals;
-    this.listed = new Listed(lives, this.lives, this.lastPlace + 1);
+    this.listed = new Listed(handles, callers, this.lives, this.lastPlace + 1);
     this.values.take(columns);
   }
 
@@ -306,7 +301,7 @@ export class Run {
   async findAccount() {
     const { names } = this;
     if (this.account !== null) return;
-    const made = await this.client.request("account", names.parts);
+    const made = await this.askNamed("account");
     if (this.waiting) made.waiting.push({ text: `${names.actor(this.waiting.actor)} would wait in line ${this.waiting.line}: ${this.waiting.text}`, since: this.lastPlace });
     if (this.names === names) this.account = made;
   }
@@ -324,12 +319,30 @@ export class Run {
     const states = [];
     for (let done = 0; done < places.length;) {
       const some = places.slice(done, done + Math.ceil(MOST_ASKED / this.stateLength));
-      const text = await this.client.request("states", some);
-      this.stateLength = Math.max(this.stateLength, text.length / some.length);
-      states.push(...readStates(text));
+      const numbers = await this.client.request("states", some);
+      this.stateLength = Math.max(this.stateLength, numbers.length / some.length);
+      states.push(...readStates(numbers, this.channels.length, this.lastPlace));
       done += some.length;
     }
     return states;
+  }
+
+  // Requests something for which the engine needs the names of the run: it gets them once.
+  async askNamed(request, ...values) {
+    const { bytes } = this.names;
+    if (this.named.bytes !== bytes) this.named = { bytes, request: this.client.request("name", bytes) };
+    await this.named.request;
+    return this.client.request(request, ...values);
+  }
+
+  // Returns the places of all calls that have a text in their words, in those of their reply, or in a name.
+  search(wanted) {
+    return this.askNamed("search", wanted);
+  }
+
+  // Returns how the run differs from another one, which is opened too.
+  against(other) {
+    return this.askNamed("against", other.journal, other.names.bytes);
   }
 
   // Returns what these commands write, as in the console.

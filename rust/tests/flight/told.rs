@@ -76,7 +76,7 @@ fn a_lag_of_the_night_is_told_with_what_is_known() {
         lines[5].contains("its last receive: none in the window; at "),
         "{said}"
     );
-    let lost = format!("  lost: {overwritten} values, overwritten before the window; value 99");
+    let lost = format!("  lost: {overwritten} values, overwritten before the window; its 999");
     assert!(lines[6].starts_with(&lost), "{said}");
     let json = why(&journal, &["--json"]);
     assert!(

@@ -121,6 +121,7 @@ pub fn play(test: &str, folder: &Path, keep: Option<&str>) -> (bool, String) {
 fn is_ours(line: &str) -> bool {
     let starts = [
         "yovanelum: ",
+        "failed: ",
         "error: ",
         "warning: ",
         "note: call ",
@@ -132,7 +133,10 @@ fn is_ours(line: &str) -> bool {
         "  the panic ",
         "  the error ",
         "  lost: ",
-        "  not told: ",
+        "  not that far: ",
+        "  senders: ",
+        "  a panic ",
+        "  the start ",
         "and ",
         "still waiting: ",
         "look: ",
@@ -179,8 +183,13 @@ pub fn relocated(text: &str, (file, from): (&str, u32), (copy, to): (&str, u32))
     for part in parts {
         let (line, rest) = number(&part[1..]);
         out += &format!("{copy}:{}", line - from + to);
-        match rest.strip_prefix(':').map(number) {
-            Some((column, rest)) => out += &format!(":{}{rest}", column + 4),
+        // A column comes next, or the text that the place stands before.
+        let column = rest.strip_prefix(':');
+        match column.filter(|rest| rest.starts_with(|c: char| c.is_ascii_digit())) {
+            Some(column) => {
+                let (column, rest) = number(column);
+                out += &format!(":{}{rest}", column + 4);
+            }
             None => out += rest,
         }
     }

@@ -23,18 +23,6 @@ CRATE = (("--lib",), ("--test=optimized", "model_broadcast::", "model_watch::", 
 MOST_SECONDS = 900
 # Tests that take no time of a processor for so long wait for what never happens.
 MOST_IDLE_SECONDS = 60
-# The program alone. Cargo would compile the library of its package too, of which it uses nothing.
-PROGRAM = """[package]
-name = "planted"
-version = "0.0.0"
-edition = "2024"
-
-[[bin]]
-name = "ttd"
-path = "../rust/src/bin/ttd.rs"
-
-[workspace]
-"""
 
 
 class Edit(typing.NamedTuple):
@@ -109,9 +97,8 @@ class Lane:
         self.rust, self.target = f"{folder}/rust", f"{folder}/target"
         self.program = f"{folder}/target-program/release/ttd"
         shutil.rmtree(self.rust, ignore_errors=True)
-        os.makedirs(f"{folder}/program", exist_ok=True)
-        with open(f"{folder}/program/Cargo.toml", "w", encoding="utf-8") as file:
-            file.write(PROGRAM)
+        os.makedirs(folder, exist_ok=True)
+        subprocess.run([f"{top}/rust/ttd/sources", f"{folder}/crates"], check=True)
         # The files are new, so that nothing stays that cargo compiled of an edit.
         shutil.copytree(f"{top}/rust", self.rust, ignore=shutil.ignore_patterns("target", "x86_64-linux", "tokio*"), copy_function=shutil.copy)
         shutil.rmtree(f"{folder}/tests", ignore_errors=True)
@@ -149,7 +136,7 @@ class Lane:
     def write(self, crate, path, text):
         """Writes the Rust of a source, and returns whether it changed."""
         made, _ = rust.rust(crate, f"crates/{crate}/{path}", text, self.crates)
-        place = f"{self.rust}/src/source/{layout.place_of(f'{crate}/{path}')}"
+        place = f"{self.rust}/src/core/source/{layout.place_of(f'{crate}/{path}')}"
         with open(place, encoding="utf-8") as file:
             if file.read() == made:
                 return False
@@ -162,7 +149,8 @@ class Lane:
             return hashlib.file_digest(file, "blake2b").digest()
 
     def build(self):
-        return run(["cargo", "build", "--release", "-j2"], f"{self.folder}/program", f"{self.folder}/target-program")
+        words = ["cargo", "build", "--release", "--locked", "-j2", f"--config={self.folder}/crates/config.toml"]
+        return run(words, f"{self.rust}/ttd", f"{self.folder}/target-program")
 
     def reads(self, crate):
         """Whether rustc reads what has a crate that the program lacks: the library, or what tests have of the proved crates."""

@@ -1,4 +1,4 @@
-"""Which source becomes which file, and the two lists of modules."""
+"""Which source becomes which file, and the lists of modules."""
 import os
 
 from . import rust
@@ -13,6 +13,7 @@ HEAD = """{docs}
 """
 LIBRARY = "//! The proved crates of which the library is made, as Rust source: each module is a crate."
 PROGRAM = "//! The proved crates of which the program `ttd` is made, as Rust source: each module is a crate."
+PAGE = "//! The proved crates of which the engine of the page is made, as Rust source: each module is a crate."
 
 
 def saturated_of(top):
@@ -43,8 +44,10 @@ class Crates:
                 head, colon, names = line.partition(":")
                 if colon and not line.startswith("#"):
                     lists[head] = names.split()
-        self.library, self.program = lists["both"] + lists["library"], lists["both"] + lists["program"]
-        self.modules = lists["both"] + lists["library"] + lists["program"] + lists["tests"]
+        both, library, console = (lists[name] for name in ("both", "library", "console"))
+        self.library, self.program = both + library, both + console + lists["program"]
+        self.page = both + library + console + lists["page"]
+        self.modules = both + library + console + lists["program"] + lists["page"] + lists["tests"]
         self.tests = lists["tests"]
         self.ports = lists["ports"]
         self.saturated = saturated_of(top)
@@ -52,7 +55,7 @@ class Crates:
 
 
 def place_of(path):
-    """The Rust file, below rust/src/source/, of a file below crates/."""
+    """The Rust file, below rust/src/core/source/, of a file below crates/."""
     crate, _, inner = path.partition("/src/")
     inner = "mod.rs" if inner == "lib.rt" else inner.removesuffix(".rt") + ".rs"
     return f"{crate}/{inner}"
@@ -67,9 +70,9 @@ def sources_of(top, crate):
 
 
 def lists(crates):
-    """The two files that list the modules."""
-    library, program = ("\n".join(f"pub mod {name};" for name in names) for names in (crates.library, crates.program))
-    return {"source.rs": HEAD.format(docs=LIBRARY, modules=library), "source/program.rs": HEAD.format(docs=PROGRAM, modules=program)}
+    """The files that list the modules."""
+    files = {"core/source.rs": (LIBRARY, crates.library), "core/source/program.rs": (PROGRAM, crates.program), "core/source/page.rs": (PAGE, crates.page)}
+    return {path: HEAD.format(docs=docs, modules="\n".join(f"pub mod {name};" for name in names)) for path, (docs, names) in files.items()}
 
 
 def made(top):
@@ -80,7 +83,7 @@ def made(top):
         for path in sources_of(top, crate):
             with open(f"{top}/crates/{path}", encoding="utf-8") as file:
                 text = file.read()
-            files[f"source/{place_of(path)}"], found = rust.rust(crate, f"crates/{path}", text, crates)
+            files[f"core/source/{place_of(path)}"], found = rust.rust(crate, f"crates/{path}", text, crates)
             for kind, count in found.items():
                 counts[kind] = counts.get(kind, 0) + count
     return files, counts

@@ -67,11 +67,11 @@ def judge_casts(top, files):
 
 
 def judge_lists(top, known):
-    """The faults of the two lists of modules, as texts."""
-    for path, modules in (("rust/src/source.rs", known.both + known.library), ("rust/src/source/program.rs", known.both + known.program)):
-        why = lists.judge(crates.read(f"{top}/{path}"), modules) if os.path.exists(f"{top}/{path}") else "it isn't there"
+    """The faults of the lists of modules, as texts."""
+    for path, modules in known.modules().items():
+        why = lists.judge(crates.read(f"{top}/rust/src/{path}"), modules) if os.path.exists(f"{top}/rust/src/{path}") else "it isn't there"
         if why:
-            yield f"{path}: {why}"
+            yield f"rust/src/{path}: {why}"
 
 
 def judge(top):

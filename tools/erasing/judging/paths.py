@@ -4,7 +4,7 @@ from . import marks
 # Crates that come with rustc. Rattle's std isn't Rust's, so a path to one of these means something else.
 OF_RUST = ("std", "core", "alloc", "proc_macro", "test")
 # Crates of the kit for which there is nothing in the shim.
-OF_THE_KIT = ("anyhow", "clap", "thiserror")
+OF_THE_KIT = ("anyhow", "thiserror")
 
 
 def begins(code, i):

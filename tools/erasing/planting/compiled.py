@@ -1,9 +1,11 @@
-"""Whether rustc compiles the crate, the program, or what tests have of the proved crates, with one file changed."""
+"""Whether rustc compiles the crate, or what tests have of the proved crates, with one file changed. Those of the program and the page are
+among the latter.
+"""
 import os
 import shutil
 import subprocess
 
-ROOTS = {"library": "lib.rs", "program": "bin/ttd.rs", "tests": "../../tests/core/proved/src/lib.rs"}
+ROOTS = {"library": "lib.rs", "tests": "../../tests/core/proved/src/lib.rs"}
 
 
 class Compiled:
@@ -11,12 +13,11 @@ class Compiled:
 
     def __init__(self, top, lists, folder):
         self.lists, self.folder, self.crate = lists, f"{folder}/rust/src", f"{top}/rust"
-        for part in ("rust/src", "tests/core/proved/src"):
+        for part in ("rust/src", "rust/ttd/src", "tests/core/proved/src"):
             shutil.copytree(f"{top}/{part}", f"{folder}/{part}")
 
     def root_of(self, crate):
-        lists = (name for name in ("program", "tests") if crate in getattr(self.lists, name))
-        return ROOTS[next(lists, "library")]
+        return ROOTS["library" if crate in self.lists.both + self.lists.library else "tests"]
 
     def build(self, root):
         """Compiles a root without linking it, and returns rustc's messages, or None if there is no error."""

@@ -4,8 +4,8 @@ import re
 import subprocess
 
 HERE = os.path.dirname(os.path.dirname(os.path.realpath(__file__)))
-CRATES = "both: rw_sample\nlibrary:\nprogram:\ntests:\nports: itoa\n"
-SAID = re.compile(r"rust/src/source/rw_sample/(\w+)\.rs:(\d+): (.*)")
+CRATES = "both: rw_sample\nlibrary:\nconsole:\nprogram:\npage:\ntests:\nports: itoa\n"
+SAID = re.compile(r"rust/src/core/source/rw_sample/(\w+)\.rs:(\d+): (.*)")
 
 
 def samples():
@@ -40,7 +40,7 @@ def run(command, folder):
 
 def expected(folder, name):
     """The line of the Rust that a sample says is refused, with the words of the reason, or None for one that is allowed."""
-    with open(f"{folder}/rust/src/source/rw_sample/{name}.rs", encoding="utf-8") as file:
+    with open(f"{folder}/rust/src/core/source/rw_sample/{name}.rs", encoding="utf-8") as file:
         for number, line in enumerate(file, 1):
             if "//= " in line:
                 return number, line.partition("//= ")[2].strip()

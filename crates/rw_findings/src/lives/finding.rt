@@ -65,7 +65,7 @@ fn follow_all<V: Copy>(
 }
 
 /// Appends the lives of the handles that a channel opens with: a sender and a receiver.
-fn open_lives(alloc: Global, lives: &mut Vec<Life>) -> Result<(), NoMemory>
+pub(crate) fn open_lives(alloc: Global, lives: &mut Vec<Life>) -> Result<(), NoMemory>
     ensures { OnOk result (lives.new.items ≡ lives.old.items ++ born Kind.Sender 0 None ∷ born Kind.Receiver 0 None ∷ []) }
 {
     lives.push(Life::new(alloc, Kind::Sender, 0, None))?;
@@ -107,7 +107,7 @@ fn follow<V: Copy>(
 }
 
 /// Counts an actor's call with a handle, if this was made, and notes the kind that the handle has at a place.
-fn count_call(
+pub(crate) fn count_call(
     lives: &mut Vec<Life>,
     handle: u32,
     actor: u32,
@@ -126,7 +126,7 @@ fn count_call(
 }
 
 /// Adds the life of the handle that a channel has just made, if it has made one.
-fn add_made<V: Copy>(
+pub(crate) fn add_made<V: Copy>(
     alloc: Global,
     lives: &mut Vec<Life>,
     machine: &Chan<V>,

@@ -1,8 +1,9 @@
 //! The pass over a run that finds where its losses began.
 
-ghost use Rattle.std.specs.Prelude.{◌≡◌, IfOk};
+ghost use Rattle.std.specs.Prelude.{◌≡◌, ◌≤◌, IfOk};
 ghost use Rattle.rw_findings.specs.Losses.{AreLosses};
 ghost use Rattle.rw_findings.specs.Receivers.{AreStarts, position_in};
+ghost use Rattle.rw_navigator.specs.Places.{last_place};
 
 use super::receipts::{follow_to, last_of};
 use super::start::LossStart;
@@ -10,13 +11,13 @@ use crate::losses::Loss;
 use crate::peaks::Peaks;
 use rw_journal::Run;
 use rw_law::{NoMemory, Reversible};
-use rw_navigator::{Debugger, Move};
+use rw_navigator::Visitor;
 use rw_world::{Chan, World, documented, machines};
 use std::alloc::Global;
 
 /// Finds where the losses of a run began: which value was the first that was lost, and where the receiver had received last.
 ///
-/// A debugger goes over the run once, with a copy of it, if there is a loss. Besides that it needs 8 bytes a handle.
+/// A world goes over the run once, if there is a loss. Besides that it needs 8 bytes a handle.
 pub fn starts_of<V: Copy>(
     alloc: Global,
     run: &Run<V>,
@@ -31,20 +32,34 @@ pub fn starts_of<V: Copy>(
     if losses.is_empty() {
         return Ok(starts);
     }
-    let mut debugger = Debugger::open(alloc, run)?;
+    let mut visitor = Visitor::open(alloc, run)?;
     let mut given = Peaks::new(alloc);
     let mut place = 0;
     for loss in losses {
         follow_to(alloc, run, &mut given, place, loss.from)?;
+        go_on(&mut visitor, run, place, loss.from);
         place = loss.from;
-        let _moved = debugger.step(Move::Goto(place));
-        let position = position_in(debugger.state(), loss.channel, loss.receiver);
+        let position = position_in(visitor.state(), loss.channel, loss.receiver);
         starts.push_reserved(LossStart {
             first: position.unwrap_or(0),
             received: last_of(&given, loss.channel, loss.receiver),
         });
     }
     Ok(starts)
+}
+
+/// Goes on to a place.
+fn go_on<V: Copy>(visitor: &mut Visitor<V>, run: &Run<V>, from: u64, to: u64)
+    requires run { visitor.old.run ≡ run.now }
+    requires here { visitor.old.place ≡ from }
+    requires on { from ≤ to }
+    requires inside { to ≤ last_place run.now }
+    ensures run { visitor.new.run ≡ run.now }
+    ensures here { visitor.new.place ≡ to }
+{
+    'each_place: for _place in from..to {
+        visitor.advance(run);
+    }
 }
 
 /// Returns the position of a live receiver of a broadcast.

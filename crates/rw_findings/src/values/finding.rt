@@ -90,7 +90,7 @@ fn follow<V: Copy>(
 }
 
 /// Notes what a channel shows at a place: the value that came there, if one did, and the one that it overwrote.
-fn note_state<V: Copy>(
+pub(crate) fn note_state<V: Copy>(
     values: &mut Vec<ChannelValue<V>>,
     machine: &Chan<V>,
     place: u64,

@@ -80,7 +80,7 @@ fn the_sum_is_right() {
 #[test]
 fn the_state_is_ready() {
     let recorder = Recorder::for_test("the_state_is_ready");
-    let (state, mut reader) = watch::channel("loading");
+    let (state, mut reader) = watch::channel("loading"); // the state is made
     recorder.name(&state, "state").name(&reader, "reader");
     recorder.show(&state, |state| format!("{state}!"));
     state.send("busy").unwrap(); // the state is busy
@@ -182,7 +182,7 @@ fn both_clerks_get_the_first_order() {
     let till = named("till", async move { first.recv().await }); // the till is told
     let audit = named("audit", async move {
         let order = second.recv().await; // the audit is told
-        assert_eq!(order, Ok(71));
+        assert_eq!(order, Ok(71)); // the audit asserts
     });
     runtime.block_on(async {
         tokio::spawn(shop).await.unwrap();

@@ -26,7 +26,6 @@ const COVERED: &[(&str, &str, &str)] = &[
     ("rw_journal/src/stamps.rt", "stamp_after", "Book::take, stamps"),
     ("rw_lines/src/lines.rt", "next_short_line", "session, a line"),
     ("rw_navigator/src/worlds/indexes.rt", "keep", "debug, indexes"),
-    ("rw_page/src/held_exports.rt", "ttd_held_levels", "none: page/tests/built_module.test.js asks the built module"),
     ("rw_program/src/inputs.rt", "read_whole", "read_whole"),
     ("rw_recording/src/channels.rt", "make", "none: no channel gets as heavy in a lifetime"),
     ("rw_recording/src/cut.rt", "add", "Cut::add"),

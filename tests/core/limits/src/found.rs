@@ -5,7 +5,7 @@ use proved::Global;
 use proved::rw_broadcast::{BCall, BReply};
 use proved::rw_findings::{
     LossEnd, Measure, Stretches, closings_of, last_receipts_of, lives_of, losses_of, peaks_of,
-    starts_of, totals_of, values_between, values_of,
+    starts_of, totals_of, traffic_of, values_between, values_of,
 };
 use proved::rw_journal::{Run, RunDraft};
 use proved::rw_navigator::{Cond, HitIndex, Navigator};
@@ -94,6 +94,13 @@ pub fn values(size: u64) -> bool {
     let values = values_of(Global, &run_of(size).unwrap(), 0).unwrap();
     let between = values_between(&values, 1, size);
     (values.len() as u64, between) == (size, size - 1)
+}
+
+/// The same values, with the lives of the handles.
+pub fn traffic(size: u64) -> bool {
+    let found = traffic_of(Global, &run_of(size).unwrap(), &[true]).unwrap();
+    let channel = found[0].as_ref().unwrap();
+    (channel.values().len() as u64, channel.lives().len()) == (size, 2)
 }
 
 pub fn peaks(size: u64) -> bool {

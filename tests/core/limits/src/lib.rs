@@ -159,6 +159,7 @@ limits! {
     "last_receipts_of, receivers" of 65_534, 2 s: found::receipts;
     "lives_of, handles" of 65_534, 2 s: found::lives;
     "values_of, values_between, values" of 1_048_576, 4 s slow: found::values;
+    "traffic_of, values" of 1_048_576, 4 s slow: found::traffic;
     "peaks_of, stretches" of 1_048_576, 4 s slow: found::peaks;
     "Findings::read" of 1_048_576, 8 s slow: found::findings;
     "HitIndex::build" of 1_048_576, 3 s slow: found::hits;

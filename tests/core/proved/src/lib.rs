@@ -1,4 +1,4 @@
-//! The Rust source of the proved crates, with all that is public in it: `rust/src/source`, over the shim that the program has.
+//! The Rust source of the proved crates, with all that is public in it: `rust/src/core/source`, over the shim of the library and of the program.
 //!
 //! Rattle's functions ask for an allocator and a runtime. Both have no bytes: tests give [`Global`] and [`RT`].
 #![allow(
@@ -10,20 +10,10 @@
     clippy::all
 )]
 
-#[path = "../../../../rust/src/large_pages.rs"]
+#[path = "../../../../rust/src/core/large_pages.rs"]
 mod large_pages;
 
-pub mod shim {
-    pub mod atomic_table;
-    mod for_tests;
-
-    #[path = "../../../../../rust/src/shim/program.rs"]
-    mod program;
-
-    pub use for_tests::VecExt;
-    pub use program::*;
-    pub use std::collections;
-}
+pub mod shim;
 
 #[rustfmt::skip]
 mod source;

@@ -8,6 +8,7 @@ mod lives;
 mod losses;
 mod peaks;
 mod totals;
+mod traffic;
 mod values;
 mod walks;
 mod worlds;

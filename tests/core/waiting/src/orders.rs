@@ -8,7 +8,7 @@
 
 mod path;
 #[allow(dead_code)]
-#[path = "../../../../rust/src/explore/pin.rs"]
+#[path = "../../../../rust/src/schedule/explore/pin.rs"]
 mod pin;
 mod places;
 mod run;

@@ -1,22 +1,22 @@
 //! The shim of the proved crates, where words, locks and parked threads take turns.
 
-#[path = "../../../../rust/src/shim/alloc.rs"]
+#[path = "../../../../rust/src/core/shim/alloc.rs"]
 pub mod alloc;
 pub mod atomic_table;
-#[path = "../../../../rust/src/shim/boxed.rs"]
+#[path = "../../../../rust/src/core/shim/boxed.rs"]
 mod boxed;
-#[path = "../../../../rust/src/shim/casts.rs"]
+#[path = "../../../../rust/src/core/shim/casts.rs"]
 mod casts;
-#[path = "../../../../rust/src/shim/fallible.rs"]
+#[path = "../../../../rust/src/core/shim/fallible.rs"]
 pub mod fallible;
 #[path = "../../proved/src/shim/for_tests.rs"]
 mod for_tests;
-#[path = "../../../../rust/src/shim/slices.rs"]
+#[path = "../../../../rust/src/core/shim/slices.rs"]
 mod slices;
-#[path = "../../../../rust/src/shim/snapshot.rs"]
+#[path = "../../../../rust/src/core/shim/snapshot.rs"]
 pub mod snapshot;
 pub mod sync;
-#[path = "../../../../rust/src/shim/vec.rs"]
+#[path = "../../../../rust/src/core/shim/vec.rs"]
 mod vec;
 
 use crate::large_pages;

@@ -122,7 +122,7 @@ fn led_to<F: Read, R: Read, W: Write>(
         Ok(Asked::Session) => Ended::of(session(Global, input, out)),
         Ok(Asked::Over(verb, _)) => over_opened(Global, verb, Ok(file), input, out),
         Ok(Asked::Threads(_)) => threads_over_opened(&RT, Global, Ok(file), out),
-        Err(fault) => refuse_words(Global, &fault),
+        Err(_) => refuse_words(Global, words),
     }
 }
 
@@ -154,8 +154,7 @@ fn words_that_are_not_taken() {
     let words = words_of(&["ttd", "walk"]);
     let ended = match read_words(&words) {
         Ok(_) => Ended::silent(0),
-        Err(fault) => refuse_words(Global, &fault),
+        Err(_) => refuse_words(Global, &words),
     };
-    let told = "error: unrecognized subcommand 'walk'\n\nUsage: ttd <COMMAND>\n\nFor more information, try '--help'.\n";
-    assert_eq!((ended.status(), ended.line()), (2, told));
+    assert_eq!((ended.status(), ended.line()), (2, "refused: ttd walk"));
 }

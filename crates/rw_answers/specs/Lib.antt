@@ -1,0 +1,13 @@
+pub mod Pages
+pub mod Lines
+pub mod Texts
+pub mod Salvages
+pub mod LossLines
+pub mod PeakLines
+pub mod LifeLines
+pub mod TotalLines
+pub mod ClosingLines
+pub mod ValueLines
+pub mod FoundLines
+pub mod Opened
+pub mod HeldPages

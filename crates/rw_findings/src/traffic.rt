@@ -1,0 +1,7 @@
+//! What came on the channels of a run: the values of each, and the lives of its handles, found in one pass.
+
+mod channel;
+mod finding;
+
+pub use channel::ChannelTraffic;
+pub use finding::traffic_of;

@@ -1,2 +1,0 @@
-pub mod PeakTexts
-pub mod Pointers

@@ -1,7 +1,0 @@
-use Rattle.std.proofs.Common.{◌≡◌, ◌++◌, take}
-use Rattle.std.specs.List.{flat_map}
-use Rattle.rw_page.specs.ClosingLines.{closing_line}
-use Rattle.rw_page.proofs.closing_lines.push_closings.Given as goal
-
-abbrev pub invariant-loop-closing : goal.invariant-loop-closing
-invariant-loop-closing l = l.out.items ≡ l.initial.out.items ++ flat_map closing_line (take l.closing-index l.closings)

@@ -1,7 +1,0 @@
-use Rattle.std.proofs.Common.{take}
-use Rattle.rw_page.specs.PeakLines.{AreChannelTexts}
-use Rattle.rw_page.specs.Texts.{Appended}
-use Rattle.rw_page.proofs.peak_lines.push_channels.Given as goal
-
-abbrev pub invariant-each_channel : goal.invariant-each_channel
-invariant-each_channel l = Appended l.initial.out.items l.out.items (AreChannelTexts l.run l.stretches (take l.channel-index l.channels))

@@ -1,6 +1,0 @@
-use Rattle.std.proofs.Common.{◌≡◌, ◌++◌}
-use Rattle.rw_page.specs.ValueLines.{value_lines}
-use Rattle.rw_page.proofs.value_lines.push_values.Given as goal
-
-abbrev pub invariant-each_value : goal.invariant-each_value
-invariant-each_value l = l.out.items ≡ l.initial.out.items ++ value_lines l.channel l.values l.number

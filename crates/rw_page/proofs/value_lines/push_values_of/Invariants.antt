@@ -1,6 +1,0 @@
-use Rattle.rw_page.specs.ValueLines.{IsValueText}
-use Rattle.rw_page.specs.Texts.{Appended, AreTexts}
-use Rattle.rw_page.proofs.value_lines.push_values_of.Given as goal
-
-abbrev pub invariant-each_channel : goal.invariant-each_channel
-invariant-each_channel l = Appended l.initial.out.items l.out.items (AreTexts (IsValueText l.run) l.channel)

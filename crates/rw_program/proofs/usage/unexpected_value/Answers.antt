@@ -1,4 +1,0 @@
-use Rattle.rw_program.proofs.usage.unexpected_value.Goals as goal
-
-pub returns : goal.returns
-returns c = rw c.head-head.ensures at (rw c.tail-tail.ensures at c.format.ensures.ok)

@@ -1,0 +1,13 @@
+//! The lowest layer: the proved crates as Rust source, and what they stand on.
+
+#![allow(dead_code, unused_imports)]
+
+#[path = "../../../rust/src/core/large_pages.rs"]
+pub(crate) mod large_pages;
+#[path = "../../../rust/src/core/lists.rs"]
+pub(crate) mod lists;
+#[path = "shim.rs"]
+pub(crate) mod shim;
+#[path = "../../../rust/src/core/source/page.rs"]
+#[rustfmt::skip]
+pub(crate) mod source;

@@ -1,0 +1,34 @@
+//! The engine of the page: what of the Rust crate reads a run, with exports of its own. `./build
+//! page` compiles it for WebAssembly.
+//!
+//! The layers `core` and `run` of `rust/src` are included here as they are: so the page, `yovanelum
+//! why` and the adapter read a run by the same functions. Of the proved crates it has those of the
+//! library, those of `ttd`'s console, and `rw_answers`.
+
+mod beside;
+mod columns;
+mod core;
+pub mod engine;
+mod exports;
+mod found;
+mod levels;
+#[cfg(target_family = "wasm")]
+mod memory;
+mod opening;
+pub mod part;
+mod search;
+mod states;
+
+// What the program and the tests use of it isn't used here.
+#[allow(dead_code, unused_imports)]
+#[path = "../../../rust/src/run/mod.rs"]
+mod run;
+
+use crate::core::{shim, source};
+
+/// The proved functions whose lines the tests compare with what the page gets.
+pub mod proved {
+    pub use crate::shim::{Vec, alloc::Global};
+    pub use crate::source::rw_answers::Opened;
+    pub use crate::source::rw_findings::Stretches;
+}

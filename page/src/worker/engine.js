@@ -1,0 +1,92 @@
+// The engine: the exports of its module (page/engine/src/exports.rs). Inputs are copied into the module's memory, and the parts of an answer out of it,
+// as typed arrays.
+
+const TYPES = { 1: Uint8Array, 4: Uint32Array };
+
+const encoder = new TextEncoder();
+const decoder = new TextDecoder();
+
+export class Engine {
+  constructor(bytes) {
+    this.module = new WebAssembly.Module(bytes);
+    // The text that was opened, and that of its names, for a fresh instance.
+    this.text = null;
+    this.names = new Uint8Array();
+    this.start();
+  }
+
+  // Opens a journal text or a script. Returns the parts of its run, or throws its first fault.
+  open(text) {
+    this.text = null;
+    this.names = new Uint8Array();
+    this.isOpen = false;
+    const parts = this.call("open", text);
+    this.text = text;
+    this.isOpen = true;
+    return parts;
+  }
+
+  // Takes the text of a file of names for the opened run, or throws what is wrong with it.
+  name(names) {
+    this.names = names;
+    this.ofRun("name", names);
+  }
+
+  // Asks something of the opened run.
+  ofRun(name, ...inputs) {
+    if (this.text === null) throw new Error("no run is open");
+    if (!this.isOpen) this.openAgain();
+    return this.call(name, ...inputs);
+  }
+
+  // The same, where the answer is a text.
+  textOf(name, ...inputs) {
+    return decoder.decode(this.ofRun(name, ...inputs)[0]);
+  }
+
+  openAgain() {
+    this.call("open", this.text);
+    this.call("name", this.names);
+    this.isOpen = true;
+  }
+
+  // Calls an export with some typed arrays or texts, and returns the parts of its answer. A trap leaves the memory half written. So after one the next
+  // call uses a fresh instance.
+  call(name, ...inputs) {
+    try {
+      for (const input of inputs) this.put(typeof input === "string" ? encoder.encode(input) : input);
+      const isAnswer = this.exports[name]() === 0;
+      const parts = this.parts();
+      if (isAnswer) return parts;
+      throw new Fault(decoder.decode(parts[0]));
+    } catch (error) {
+      if (error instanceof Fault) throw error;
+      const isRefused = this.exports.refused() > 0;
+      this.start();
+      throw isRefused ? new Error("no memory") : error;
+    }
+  }
+
+  start() {
+    /** @type {any} */
+    this.exports = new WebAssembly.Instance(this.module).exports;
+    this.isOpen = false;
+  }
+
+  // When the memory grows, it becomes another buffer, so a view of it must be used at once.
+  put({ buffer, byteOffset, byteLength }) {
+    const at = this.exports.input(byteLength);
+    if (at === 0) throw new Error("no memory");
+    new Uint8Array(this.exports.memory.buffer, at, byteLength).set(new Uint8Array(buffer, byteOffset, byteLength));
+  }
+
+  parts() {
+    const { memory, parts, part_address: address, part_len: length, part_width: width, done } = this.exports;
+    const made = Array.from({ length: parts() }, (_, i) => new TYPES[width(i)](memory.buffer, address(i), length(i)).slice());
+    done();
+    return made;
+  }
+}
+
+// Why there is no answer, in the engine's words.
+export class Fault extends Error {}

@@ -1,0 +1,103 @@
+// What the engine finds in the opened run, as the page holds it. Each list of numbers has so many for each thing that is found.
+
+const END = ["told", "dropped", "open"];
+
+// Past every place.
+const NONE = 2 ** 32 - 1;
+
+const KEPT = /^kept (\d+) bytes\n/;
+
+function orNull(number) {
+  return number === NONE ? null : number;
+}
+
+// Calls `make` with the numbers of each thing.
+function each(numbers, width, make) {
+  return Array.from({ length: numbers.length / width }, (_, i) => make(...numbers.subarray(width * i, width * (i + 1))));
+}
+
+// Returns the states at these places in numbers, without those that there aren't.
+/** @returns {Uint32Array} */
+export function statesAt(engine, places) {
+  return engine.ofRun("states", BigUint64Array.from(places, BigInt))[0];
+}
+
+// Returns the losses of the run, those that are open with the place after the last as their end.
+/** @returns {Loss[]} */
+export function lossesOf(engine, lastPlace) {
+  return each(engine.ofRun("losses")[0], 6, (channel, receiver, from, lost, end, to) => ({
+    channel, receiver, from, lost, end: /** @type {Loss["end"]} */ (END[end]), to: orNull(to) ?? lastPlace + 1,
+  }));
+}
+
+// Returns all else that is found in the run, which has so many channels.
+export function foundIn(engine, count) {
+  const [closings, late, broadcasts, watches, handles, callers, sends, overwritten, ends] = engine.ofRun("found");
+  return {
+    closings: closingsOf(count, closings, late), totals: totalsOf(broadcasts, watches), handles, callers, columns: { sends, overwritten, ends },
+  };
+}
+
+// The place from which on each of so many channels is closed, or null, and where each receiver that was there then was told so, or null, and how many
+// values it received from then on.
+/** @returns {Closings} */
+function closingsOf(count, closings, late) {
+  const places = Array.from({ length: count }, () => null);
+  const told = Array.from({ length: count }, () => new Map());
+  const readOn = Array.from({ length: count }, () => new Map());
+  each(closings, 2, (channel, place) => { places[channel] = place; });
+  each(late, 4, (channel, receiver, place, received) => {
+    told[channel].set(receiver, orNull(place));
+    readOn[channel].set(receiver, received);
+  });
+  return { places, told, readOn };
+}
+
+// The totals of each receiver, those of broadcasts before those of watches.
+/** @returns {Totals[]} */
+function totalsOf(broadcasts, watches) {
+  return [
+    ...each(broadcasts, 7, (channel, receiver, received, lost, worst, worstPlace, unread) => ({
+      channel, receiver, counts: { received, lost, worst, worstPlace, unread: orNull(unread) }, missed: null, unlooked: null,
+    })),
+    ...each(watches, 4, (channel, receiver, missed, unlooked) => ({ channel, receiver, counts: null, missed, unlooked })),
+  ];
+}
+
+// Returns the levels of the receivers of some channels in stretches of `each` places from `from` on: of each receiver that has one its spans of stretches
+// with one level, each as its first stretch, the one after its last, and the level.
+export function levelsIn(engine, channels, from, each, count) {
+  const [numbers] = engine.ofRun("levels", Uint8Array.from(channels), BigUint64Array.from([from, each, count], BigInt));
+  const rows = [];
+  for (let at = 0; at < numbers.length;) {
+    const [channel, receiver, length] = numbers.subarray(at, at += 3);
+    rows.push({ channel, receiver, spans: numbers.slice(at, at += length) });
+  }
+  return rows;
+}
+
+// How the opened run differs from another one, whose journal text and text of names are given: where its calls have their partners there, or 0, and by
+// what they differ, or 0; the places here of the partners of those there, or 0; which channel here each one there is, or -1; and the lines of the difference.
+export function comparedWith(engine, journal, names) {
+  const [lines, run, partners, kinds, back, channels] = engine.ofRun("against", journal, names);
+  const text = bytes => new TextDecoder().decode(bytes);
+  return { lines: text(lines).split("\n"), run: text(run), partners, kinds, back, channels: Array.from(channels, channel => orNull(channel) ?? -1) };
+}
+
+// Returns how many bytes of a journal text its whole lines have, and the journal text of what these hold, or null if they hold no run.
+export function salvagedFrom(engine, journal) {
+  const [bytes] = engine.call("salvage", journal);
+  const head = KEPT.exec(new TextDecoder().decode(bytes.subarray(0, 64)));
+  return head && { kept: Number(head[1]), bytes: bytes.slice(head[0].length) };
+}
+
+// Returns the places of all calls that have a text: in their words or those of their reply, or in what of the names has it.
+export function hitsOf(engine, { text, actors, channels, locations, handles, values }) {
+  return engine.ofRun("search", text, actors, channels, locations, ...listed(handles), ...listed(values))[0];
+}
+
+// Lists of numbers as one, with the index past each.
+function listed(lists) {
+  let end = 0;
+  return [BigUint64Array.from(lists.flat()), Uint32Array.from(lists.map(list => (end += list.length)))];
+}

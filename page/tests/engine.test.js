@@ -1,0 +1,129 @@
+// What the built module does: at its limit, with its memory, and after a failure. The page that has it is rust/built/yovanelum.html.
+
+import assert from "node:assert/strict";
+import test from "node:test";
+import { Fault } from "../src/worker/engine.js";
+import { hitsOf, levelsIn, lossesOf, salvagedFrom, statesAt } from "../src/worker/found.js";
+import { openRun } from "../src/worker/opening.js";
+import { builtEngine, journalOf, opened } from "./built_engine.js";
+
+const bytes = text => new TextEncoder().encode(text);
+
+// A journal text of so many sends, of which nobody receives one.
+const sends = (count, heads = ["broadcast 2"]) => journalOf(heads, Array.from({ length: count }, (_, i) => `0 0 send 0 ${i} = sent 1`));
+
+// The spans of how much the receiver has to receive, in so many stretches of one place from the first call on.
+const spans = (engine, stretches) => levelsIn(engine, [0], 1, 1, stretches).map(({ channel, receiver, spans }) => [channel, receiver, ...spans]);
+
+test("as many stretches are answered as the limit allows, and one more is refused", () => {
+  const engine = opened(sends(3));
+  for (const stretches of [65_535, 65_536]) assert.deepEqual(spans(engine, stretches), [[0, 1, 0, 1, 1, 1, 3, 2]]);
+  assert.throws(() => spans(engine, 65_537), { message: "there are too many stretches" });
+  assert.deepEqual(spans(engine, 2), [[0, 1, 0, 1, 1, 1, 2, 2]]);
+});
+
+test("a capacity is that of tokio, the next power of two, and a watch that isn't seen has the level 1", () => {
+  const engine = opened(journalOf(["broadcast 3", "watch 0"], [...Array.from({ length: 6 }, (_, i) => `0 0 send 0 ${i} = sent 1`), "0 1 send 0 7 = stored"]));
+  assert.deepEqual(levelsIn(engine, [0, 1], 6, 1, 2).map(({ channel, receiver, spans }) => [channel, receiver, ...spans]), [[0, 1, 0, 2, 4], [1, 1, 1, 2, 1]]);
+});
+
+test("a run that is closed leaves its memory to the next", () => {
+  const engine = builtEngine();
+  const sizes = Array.from({ length: 12 }, () => {
+    engine.open(bytes(sends(20_000)));
+    engine.textOf("ask", "goto 9000\nstate\nrback actor 0\n");
+    engine.ofRun("found");
+    engine.textOf("account");
+    engine.call("debug", bytes(sends(20_000)), "");
+    return engine.exports.memory.buffer.byteLength;
+  });
+  assert.deepEqual(sizes.slice(2), sizes.slice(2).map(() => sizes[2]), "the memory grows with each run");
+});
+
+test("a text with a fault is told, and no run is open then", () => {
+  const engine = opened(sends(3));
+  const faults = [
+    [journalOf(["broadcast 2"], ["0 0 send 0 7 = sent 2"]), { of: "journal", text: "line 4: wrong reply" }],
+    ["ttd-journal 2\nbroadcast 2\nsteps\n", { of: "journal", text: "truncated" }],
+    ["broadcast 2\nactors 1\n0 0 sing 0\n", null],
+  ];
+  for (const [text, wanted] of faults) {
+    const { fault } = openRun(engine, bytes(text), []);
+    const said = new TextDecoder().decode(engine.call(text.startsWith("ttd") ? "debug" : "session", bytes(text), "")[0]);
+    assert.equal(said.split("\n")[0], `${fault.of} fault ${fault.text}`);
+    if (wanted) assert.equal(fault.of, wanted.of);
+    assert.throws(() => statesAt(engine, [0]), { message: "no run is open" });
+  }
+});
+
+test("a script is run up to the call that would wait, and its run has a journal text", () => {
+  const { journal, waitingLine, lastPlace, columns } = openRun(builtEngine(), bytes("broadcast 2\nactors 2\n0 0 send 0 7\n1 0 recv 1\n1 0 recv 1\n---\nlist\n"), []);
+  assert.equal(new TextDecoder().decode(journal), journalOf(["broadcast 2"], ["0 0 send 0 7 = sent 1", "1 0 recv 1 = value 7"]));
+  assert.deepEqual([waitingLine, lastPlace, [...columns.actors], columns.actorCount], [5, 2, [0, 0, 1], 2]);
+  assert.deepEqual([...columns.starts].map(start => new TextDecoder().decode(journal.subarray(start, start + 5))).slice(1), ["1 0 0", "2 1 0", "end\n"]);
+});
+
+test("each entry of a long run is answered", () => {
+  assert.equal(opened(sends(120_000)).textOf("ask", "list\n").split("\n").length, 120_001);
+});
+
+test("after a trap the run and its names are there again, and memory isn't blamed", () => {
+  const engine = opened(sends(3), { actors: { 0: "shop" } });
+  const wanted = engine.textOf("account");
+  const { input } = engine.exports;
+  engine.exports = { ...engine.exports, account: () => { throw new WebAssembly.RuntimeError("unreachable"); } };
+  assert.throws(() => engine.textOf("account"), { message: "unreachable" });
+  assert.notEqual(engine.exports.input, input);
+  assert.equal(engine.textOf("account"), wanted);
+  assert.match(wanted, /shop/);
+});
+
+test("memory that was refused is said", () => {
+  const engine = opened(sends(3));
+  engine.exports = { ...engine.exports, refused: () => 1, losses: () => { throw new WebAssembly.RuntimeError("unreachable"); } };
+  assert.throws(() => lossesOf(engine, 3), { message: "no memory" });
+  // More than a module has.
+  assert.throws(() => engine.put({ byteLength: 2 ** 32 - 1 }), { message: "no memory" });
+  assert.equal(engine.exports.refused(), 0, "the room for an input is asked for, and may be refused");
+});
+
+test("that there is no memory for a run is no fault of its text", () => {
+  const engine = builtEngine();
+  engine.exports = { ...engine.exports, refused: () => 1, open: () => { throw new WebAssembly.RuntimeError("unreachable"); } };
+  assert.throws(() => openRun(engine, bytes(sends(3)), []), { message: "no memory" });
+});
+
+test("names that aren't read are a fault, and the run has none then", () => {
+  const engine = opened(sends(3), { actors: { 0: "shop" } });
+  for (const [names, fault] of [["[]", "no object"], ['{"window": 7}', "its `window`: no object"]]) {
+    assert.throws(() => engine.name(bytes(names)), error => error instanceof Fault && error.message === fault);
+  }
+  assert.doesNotMatch(engine.textOf("account"), /shop/);
+  engine.name(bytes('{"panics": {"line": 7}, "made_by": 7, "sources": [], "actors": {"0": "shop"}, "unrecorded": {"channels": 2, "left": 0, "handles": 0}, "later": {}}'));
+  const { unknown } = JSON.parse(engine.textOf("account"));
+  assert.deepEqual(unknown, ["2 channels were not recorded, since 64 were alive"], "what has its form is used");
+});
+
+test("a truncated journal has its whole lines", () => {
+  const text = sends(5).slice(0, -9);
+  const { kept, bytes: left } = salvagedFrom(builtEngine(), bytes(text));
+  assert.deepEqual([kept, new TextDecoder().decode(left)], [text.lastIndexOf("\n") + 1, sends(4)]);
+  assert.equal(salvagedFrom(builtEngine(), bytes("none")), null);
+});
+
+test("a text is found in the words of calls and replies, behind a lead by the real numbers", () => {
+  const nothing = { actors: new Uint8Array(2), channels: new Uint8Array(1), locations: new Uint8Array(), handles: [[]], values: [[]] };
+  const entries = ["0 0 subscribe 0 = new 2", "0 0 send 0 7 = sent 2", "1 0 try-recv 2 = value 7", "1 0 receiver-count 0 = count 2", "1 0 receiver-len 1 = count 1"];
+  const find = (engine, text, more = {}) => [...hitsOf(engine, { text, ...nothing, ...more })];
+  const engine = opened(journalOf(["broadcast 2"], entries));
+  assert.deepEqual(["try-recv 2", "7", "new 2", "count", "1 0", "=", ""].map(text => find(engine, text)), [[3], [2, 3], [1], [4, 5], [], [], [1, 2, 3, 4, 5]]);
+  const none = "nothing has it";
+  assert.deepEqual([find(engine, none, { actors: Uint8Array.of(0, 1) }), find(engine, none, { handles: [[2n]] }), find(engine, none, { values: [[7n]] }),
+    find(engine, none, { channels: Uint8Array.of(1) })], [[3, 4, 5], [3], [2, 3], [1, 2, 3, 4, 5]]);
+  const names = { calls: { 0: [null, 0, 1, null] }, locations: [["a.rs", 1, 1], ["b.rs", 2, 2]], waited: { 0: [3] } };
+  const named = opened(journalOf(["broadcast 2"], entries), names);
+  assert.deepEqual([find(named, none, { locations: Uint8Array.of(0, 1) }), find(named, "closed 0"), find(named, "receiver-count")], [[3], [4], []]);
+  const window = { trigger: "call", reason: "asked", at: null, lead: 1, channels: { 0: { lead: 1, calls: 90, sent: 40, handles: [0, null, 55], lags: {} } } };
+  const dump = opened(journalOf(["broadcast 2"], entries), { version: 4, window });
+  assert.deepEqual(["new", "try-recv 55", "receiver-len 1 of the lead"].map(text => find(dump, text)), [[], [3], [5]]);
+});

@@ -1,0 +1,102 @@
+//! Tasks as they stand in a run that is explored.
+
+use super::caller::name_of_future;
+use crate::channels::turns::explored;
+use std::cell::{Cell, RefCell};
+use std::sync::Arc;
+use std::sync::atomic::{AtomicBool, Ordering};
+use std::task::Context;
+
+/// Whether the package that stands for tokio has spawned a task.
+static IS_OVER_FACADE: AtomicBool = AtomicBool::new(false);
+
+/// Whether a task of this run was spawned by the package that stands for tokio.
+pub(crate) fn is_over_facade() -> bool {
+    IS_OVER_FACADE.load(Ordering::Relaxed)
+}
+
+/// Notes that the package that stands for tokio spawns a task.
+pub(super) fn note_facade() {
+    IS_OVER_FACADE.store(true, Ordering::Relaxed);
+}
+
+thread_local! {
+    // The outermost named task that this thread has polled last.
+    static TASK: RefCell<Option<Arc<str>>> = const { RefCell::new(None) };
+    // Whether this thread polls or drops a task without a name, which is the one above.
+    static IS_IN_TASK: Cell<bool> = const { Cell::new(false) };
+}
+
+/// Whether this thread polls or drops a task that the explorer knows.
+pub(crate) fn is_in_task() -> bool {
+    IS_IN_TASK.get() || name_of_future().is_some()
+}
+
+/// Returns the outermost task that this thread has polled or dropped last.
+pub(crate) fn last_task() -> Option<Arc<str>> {
+    TASK.with_borrow(Clone::clone)
+}
+
+/// Notes that this thread polls or drops this task, within no other.
+pub(crate) fn set_last_task(task: &Arc<str>) {
+    TASK.set(Some(task.clone()));
+}
+
+/// A task that nobody named, whose polls a run that is explored chooses.
+pub(crate) struct ExploredTask {
+    name: String,
+    // The name that no other caller has, from the first poll on.
+    task: Option<Arc<str>>,
+}
+
+impl ExploredTask {
+    pub(super) fn new(name: String) -> ExploredTask {
+        ExploredTask { name, task: None }
+    }
+
+    /// Whether this poll of the task is held back. Then the task is woken later.
+    pub(super) fn is_held(&mut self, context: &Context<'_>) -> bool {
+        explored().is_some_and(|run| run.tasks.hold(&mut self.task, &self.name, context))
+    }
+
+    /// Makes the calls of this thread those of the task, until what this returns is dropped.
+    pub(super) fn enter(&self) -> Option<InTask> {
+        self.task.as_ref().map(InTask::new)
+    }
+
+    /// Leaves the gate, since the task is dropped.
+    pub(super) fn leave(&self) {
+        if let (Some(task), Some(run)) = (&self.task, explored()) {
+            run.tasks.leave(task);
+        }
+    }
+}
+
+/// While this is alive, this thread polls or drops a task without a name.
+pub(crate) struct InTask {
+    was_in_task: bool,
+    before: Option<Arc<str>>,
+}
+
+impl InTask {
+    fn new(task: &Arc<str>) -> InTask {
+        if is_in_task() {
+            InTask {
+                was_in_task: IS_IN_TASK.get(),
+                before: last_task(),
+            }
+        } else {
+            InTask {
+                was_in_task: IS_IN_TASK.replace(true),
+                before: TASK.replace(Some(task.clone())),
+            }
+        }
+    }
+}
+
+impl Drop for InTask {
+    fn drop(&mut self) {
+        IS_IN_TASK.set(self.was_in_task);
+        TASK.set(self.before.take());
+    }
+}

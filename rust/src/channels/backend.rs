@@ -1,0 +1,290 @@
+//! The core, as this crate calls it: channels with their journals, and the runs of journal texts.
+//!
+//! The core is the proved source in `source/`. What its functions require of a caller is a type
+//! here: the number of an actor is an [`Actor`], which is below 64.
+
+mod flight;
+#[cfg(test)]
+mod tests;
+
+pub(crate) use crate::core::source::rw_recording::{CutFault, OpenFault, Spec};
+pub(crate) use flight::{ENTRIES_AT_MOST, Kept, LEAD, Lead, MOST_CHUNK, Window, WindowFault};
+
+use crate::core::shim::Vec;
+use crate::core::shim::alloc::Global;
+use crate::core::source::rw_law::NoMemory;
+use crate::core::source::rw_recording::{self, BCall as B, ChanCall, Flight, Kind, WCall as W};
+use crate::run::calls::with_calls;
+use crate::run::journal::Run;
+use crate::run::reply::Reply;
+
+/// The number of an actor, below 64.
+#[derive(Clone, Copy, Debug, PartialEq, Eq)]
+pub(crate) struct Actor(u32);
+
+impl Actor {
+    /// The actor 0.
+    pub(crate) const FIRST: Actor = Actor(0);
+
+    /// How many actors there can be.
+    pub(crate) const MOST: usize = 64;
+
+    /// Returns the actor with this number, or the last one if the number is too great.
+    pub(crate) fn of(number: usize) -> Actor {
+        Actor(number.min(Actor::MOST - 1) as u32)
+    }
+
+    #[inline]
+    pub(crate) fn number(self) -> u32 {
+        self.0
+    }
+
+    /// The bit that stands for this actor in a set of them.
+    #[inline]
+    pub(crate) fn bit(self) -> u64 {
+        1 << self.0
+    }
+}
+
+/// The actor of a call, and the clock of its recorder. If the call is recorded, its stamp is one
+/// more than the clock.
+#[derive(Clone, Copy)]
+pub(crate) struct Caller {
+    pub(crate) actor: Actor,
+    pub(crate) clock: u64,
+}
+
+/// A channel of the core with its journal: all of its calls, the last ones, or those before its
+/// recording has ended.
+pub(crate) struct Recording {
+    // Of a channel with its last calls, another one that has ended. So a call that is recorded asks
+    // no more than whether this one has.
+    all: rw_recording::Recording,
+    last: Option<Box<Flight>>,
+}
+
+impl Recording {
+    /// Opens a channel with sender 0 and receiver 1.
+    pub(crate) fn open(spec: Spec<u64>) -> Result<Recording, OpenFault> {
+        let all = rw_recording::Recording::open(Global, spec)?;
+        Ok(Recording { all, last: None })
+    }
+
+    /// Opens a channel that keeps its last calls: between this many and twice as many.
+    pub(crate) fn open_flight(spec: Spec<u64>, chunk: usize) -> Result<Recording, OpenFault> {
+        let flight = Flight::open(Global, spec, chunk)?;
+        Ok(Recording {
+            all: nothing()?,
+            last: Some(Box::new(flight)),
+        })
+    }
+
+    /// Goes on with the last calls alone. It makes each call again. At an error nothing has
+    /// changed.
+    pub(crate) fn keep_last(&mut self, chunk: usize) -> Result<(), NoMemory> {
+        if self.last.is_none() {
+            let flight = flight_of(&self.all, chunk)?;
+            self.all = nothing().map_err(|_| NoMemory)?;
+            self.last = Some(Box::new(flight));
+        }
+        Ok(())
+    }
+
+    /// Ends recording: later calls are made as before, and leave no entry.
+    pub(crate) fn end(&mut self) {
+        self.all.end();
+    }
+
+    /// Whether all calls are recorded.
+    #[inline]
+    pub(crate) fn is_recorded(&self) -> bool {
+        self.all.is_recorded()
+    }
+
+    /// Whether the last calls alone are kept.
+    pub(crate) fn keeps_last(&self) -> bool {
+        self.last.is_some()
+    }
+
+    /// Copies the last calls of the channel, and how it was before them. Of one that has recorded
+    /// all of its calls, it makes them again, and keeps at least this many.
+    pub(crate) fn kept(&self, chunk: usize) -> Result<Kept, NoMemory> {
+        let kept = match &self.last {
+            Some(flight) => flight.kept(Global),
+            None => flight_of(&self.all, chunk)?.kept(Global),
+        };
+        kept.map(Kept::of)
+    }
+
+    /// Forgets the calls from before a renumbering, if as many later ones as a chunk has are kept.
+    pub(crate) fn forget_past(&mut self) {
+        if let Some(flight) = &mut self.last {
+            flight.forget_past();
+        }
+    }
+
+    /// Whether the last calls are kept by the numbers that handles had before a renumbering.
+    pub(crate) fn keeps_past(&self) -> bool {
+        self.last.as_ref().is_some_and(|flight| flight.is_joined())
+    }
+
+    /// Takes the dropped handles out of a channel of which not all calls are recorded: those that
+    /// are alive get the numbers 0, 1, 2, .., in the order of those that they had. Returns the
+    /// numbers that they had, or `None` if there is no memory for it, and nothing has changed. A
+    /// channel with its last calls keeps these by the numbers that handles had.
+    pub(crate) fn renumber(&mut self) -> Option<Vec<u32>> {
+        match &mut self.last {
+            Some(flight) => flight.renumber(Global).ok().flatten(),
+            None => self.all.renumber(Global).ok().flatten(),
+        }
+    }
+
+    /// Returns the spec that the channel was opened from.
+    pub(crate) fn spec(&self) -> Spec<u64> {
+        match &self.last {
+            Some(flight) => flight.spec(),
+            None => self.all.spec(),
+        }
+    }
+
+    /// How many calls are kept.
+    pub(crate) fn entries(&self) -> u64 {
+        match &self.last {
+            Some(flight) => flight.past_len() + flight.len(),
+            None => self.all.len(),
+        }
+    }
+
+    fn alive(&self, kind: Kind) -> u64 {
+        match &self.last {
+            Some(flight) => flight.alive(kind),
+            None => self.all.alive(kind),
+        }
+    }
+
+    /// How many senders are alive.
+    pub(crate) fn senders(&self) -> u64 {
+        self.alive(Kind::Sender)
+    }
+
+    /// How many weak senders are alive.
+    pub(crate) fn weak_senders(&self) -> u64 {
+        self.alive(Kind::Weak)
+    }
+
+    /// How many receivers are alive.
+    pub(crate) fn receivers(&self) -> u64 {
+        self.alive(Kind::Receiver)
+    }
+
+    /// How many values a broadcast retains for some receiver.
+    pub(crate) fn queued(&self) -> u64 {
+        match &self.last {
+            Some(flight) => flight.queued(),
+            None => self.all.queued(),
+        }
+    }
+
+    /// How many values a receiver of a broadcast has yet to receive.
+    pub(crate) fn unread(&self, receiver: u32) -> u64 {
+        let unread = match &self.last {
+            Some(flight) => flight.unread(receiver),
+            None => self.all.unread(receiver),
+        };
+        unread.expect("a live receiver of a broadcast")
+    }
+
+    /// Whether a receiver of a watch has seen its value.
+    #[inline]
+    pub(crate) fn seen(&self, receiver: u32) -> bool {
+        let seen = match &self.last {
+            Some(flight) => flight.is_seen(receiver),
+            None => self.all.is_seen(receiver),
+        };
+        seen.expect("a live receiver of a watch")
+    }
+
+    /// Makes a call where not all calls are recorded.
+    // This only leads to one of two, so that neither saves registers for the other.
+    #[inline]
+    fn call_apart(&mut self, caller: Caller, call: impl FnOnce() -> ChanCall<u64>) -> Reply {
+        match &mut self.last {
+            Some(flight) => call_last(flight, caller, call),
+            None => call_unrecorded(&mut self.all, caller, call),
+        }
+    }
+}
+
+/// Makes a call that is kept among the last ones.
+// Apart, since the reply of a call that is recorded would be stored where this one is. Each call
+// has its own, of which the branches for others are left out.
+#[inline(never)]
+fn call_last(flight: &mut Flight, caller: Caller, call: impl FnOnce() -> ChanCall<u64>) -> Reply {
+    Reply::of(&flight.call(caller.actor.number(), caller.clock, call()))
+}
+
+/// Makes a call that isn't recorded. It is apart as [`call_last`] is.
+#[inline(never)]
+fn call_unrecorded(
+    all: &mut rw_recording::Recording,
+    caller: Caller,
+    call: impl FnOnce() -> ChanCall<u64>,
+) -> Reply {
+    Reply::of(&all.call(caller.actor.number(), caller.clock, call()))
+}
+
+/// Goes on from a recording that hasn't ended with its last calls alone.
+fn flight_of(all: &rw_recording::Recording, chunk: usize) -> Result<Flight, NoMemory> {
+    Flight::of(Global, all, chunk).map_err(|_| NoMemory)
+}
+
+/// A small channel that nobody uses.
+fn nothing() -> Result<rw_recording::Recording, OpenFault> {
+    let mut nothing = rw_recording::Recording::open(Global, Spec::Watch(0))?;
+    nothing.end();
+    Ok(nothing)
+}
+
+/// The calls of the core by name: each becomes a method.
+macro_rules! methods {
+    ($($word:ident $text:literal $method:literal $done:literal $(makes $kind:ident)? [$($set:ident)*]
+        $($name:ident($($arg:ident: $type:ty),*) = $side:ident $variant:ident $args:tt)*
+        $(=> $like:ident)?;)*) => {
+        impl Recording {
+            $($(#[inline]
+            pub(crate) fn $name(&mut self, caller: Caller, $($arg: $type),*) -> Reply {
+                if !self.all.is_recorded() {
+                    return self.call_apart(caller, move || ChanCall::$side($side::$variant $args));
+                }
+                let call = ChanCall::$side($side::$variant $args);
+                Reply::of(&self.all.call(caller.actor.number(), caller.clock, call))
+            })*)*
+        }
+    };
+}
+
+with_calls!(methods);
+
+/// What channels have recorded up to one stamp.
+pub(crate) struct Cut(rw_recording::Cut);
+
+impl Cut {
+    pub(crate) fn new() -> Cut {
+        Cut(rw_recording::Cut::new(Global))
+    }
+
+    /// Adds a channel, with its entries before the first that is stamped above `last`.
+    pub(crate) fn add(&mut self, channel: &Recording, last: u64) -> Result<(), CutFault> {
+        self.0.add(Global, &channel.all, last)
+    }
+
+    /// Adds a channel's window, in the same way.
+    pub(crate) fn add_window(&mut self, window: &Window, last: u64) -> Result<(), CutFault> {
+        self.0.add(Global, window.recording(), last)
+    }
+
+    /// Returns the run of all added channels.
+    pub(crate) fn run(&self) -> Result<Run, CutFault> {
+        self.0.run(Global).map(Run::of)
+    }
+}

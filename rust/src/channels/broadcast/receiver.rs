@@ -1,0 +1,426 @@
+//! The receiving half of a broadcast channel.
+
+use super::BroadcastHandle;
+use super::error::{RecvError, TryRecvError};
+use super::values::Value;
+use crate::channels::block_on::block_on;
+use crate::channels::channel::{CallSite, CoreChannel, LockedChannel, call_site};
+use crate::channels::events::Event;
+use crate::channels::handle::Kind;
+use crate::channels::recorder::{Handle, RecordedHandle, TextOf};
+use crate::channels::wait::{Method, Pending, WaitFor};
+use crate::run::reply::Reply;
+use crate::run::word::Word;
+use std::fmt;
+use std::future::Future;
+use std::task::{Context, Poll};
+
+/// The receiving half of a broadcast channel.
+///
+/// It gets a clone of each value that is sent while it is alive, in the order of the sends, unless
+/// it lags. As in tokio, it is not `Clone`: [`Sender::subscribe`](super::Sender::subscribe) and
+/// [`resubscribe`](Receiver::resubscribe) create receivers. When it is dropped, the values that it
+/// alone had yet to receive are dropped too.
+///
+/// # Examples
+///
+/// A listener that receives until the channel is closed:
+///
+/// ```
+/// use std::thread;
+/// use yovanelum::{block_on, broadcast};
+///
+/// let (bus, mut listener) = broadcast::channel(16);
+/// let logger = thread::spawn(move || {
+///     let mut log = vec![];
+///     while let Ok(event) = block_on(listener.recv()) {
+///         log.push(event);
+///     }
+///     log
+/// });
+/// bus.send("user created").unwrap();
+/// bus.send("user deleted").unwrap();
+/// drop(bus);
+/// assert_eq!(logger.join().unwrap(), ["user created", "user deleted"]);
+/// ```
+pub struct Receiver<T> {
+    pub(super) handle: BroadcastHandle<T>,
+}
+
+impl<T> Receiver<T> {
+    /// Returns the number of values that were sent to this receiver and that it has yet to receive.
+    ///
+    /// As in tokio, overwritten values are counted until a receive returns `Lagged`. If the number
+    /// is greater than the capacity, rounded up to a power of two, the next receive returns
+    /// `Lagged`.
+    ///
+    /// # Examples
+    ///
+    /// ```
+    /// use yovanelum::broadcast::{self, error::TryRecvError};
+    ///
+    /// let (prices, mut chart) = broadcast::channel(2);
+    /// for price in [101, 102, 103] {
+    ///     prices.send(price).unwrap();
+    /// }
+    /// assert_eq!(chart.len(), 3);
+    /// assert_eq!(chart.try_recv(), Err(TryRecvError::Lagged(1)));
+    /// assert_eq!(chart.len(), 2);
+    /// ```
+    #[track_caller]
+    pub fn len(&self) -> usize {
+        self.handle.ask_count(
+            Word::ReceiverLen,
+            CoreChannel::broadcast_receiver_len,
+            |core, rx| core.unread(rx),
+        )
+    }
+
+    /// Returns `true` if this receiver has received everything that was sent to it, as in tokio: if
+    /// [`len`](Receiver::len) is 0.
+    ///
+    /// # Examples
+    ///
+    /// ```
+    /// use yovanelum::broadcast;
+    ///
+    /// let (bus, mut mailer) = broadcast::channel(4);
+    /// let audit = bus.subscribe();
+    /// bus.send("user created").unwrap();
+    /// mailer.try_recv().unwrap();
+    /// assert!(mailer.is_empty());
+    /// assert!(!audit.is_empty());
+    /// ```
+    #[track_caller]
+    pub fn is_empty(&self) -> bool {
+        self.len() == 0
+    }
+
+    /// Returns `true` if both receivers belong to the same channel, as in tokio. It is not
+    /// recorded.
+    ///
+    /// # Examples
+    ///
+    /// ```
+    /// use yovanelum::broadcast;
+    ///
+    /// let (orders, mailer) = broadcast::channel::<u32>(4);
+    /// let (_refunds, other) = broadcast::channel::<u32>(4);
+    /// assert!(mailer.same_channel(&orders.subscribe()));
+    /// assert!(!mailer.same_channel(&other));
+    /// ```
+    pub fn same_channel(&self, other: &Self) -> bool {
+        self.handle.same_channel(&other.handle)
+    }
+
+    /// Returns the number of senders that are alive, as in tokio. Weak senders are not counted. It
+    /// is not recorded.
+    ///
+    /// # Examples
+    ///
+    /// ```
+    /// use yovanelum::broadcast;
+    ///
+    /// let (bus, listener) = broadcast::channel::<u32>(4);
+    /// let other = bus.clone();
+    /// assert_eq!(listener.sender_strong_count(), 2);
+    /// drop((bus, other));
+    /// assert_eq!(listener.sender_strong_count(), 0);
+    /// ```
+    pub fn sender_strong_count(&self) -> usize {
+        self.handle.count(CoreChannel::senders)
+    }
+
+    /// Returns the number of weak senders that are alive, as in tokio. It is not recorded.
+    ///
+    /// # Examples
+    ///
+    /// ```
+    /// use yovanelum::broadcast;
+    ///
+    /// let (bus, listener) = broadcast::channel::<u32>(4);
+    /// let plugin = bus.downgrade();
+    /// assert_eq!(listener.sender_weak_count(), 1);
+    /// drop(plugin);
+    /// assert_eq!(listener.sender_weak_count(), 0);
+    /// ```
+    pub fn sender_weak_count(&self) -> usize {
+        self.handle.count(CoreChannel::weak_senders)
+    }
+
+    /// Returns `true` if the channel is closed.
+    ///
+    /// As in tokio, the channel is closed when every sender has been dropped. There may still be
+    /// values to receive. It is not recorded.
+    ///
+    /// # Examples
+    ///
+    /// ```
+    /// use yovanelum::broadcast;
+    ///
+    /// let (bus, mut listener) = broadcast::channel(4);
+    /// bus.send("shutting down").unwrap();
+    /// assert!(!listener.is_closed());
+    /// drop(bus);
+    /// assert!(listener.is_closed());
+    /// assert_eq!(listener.try_recv(), Ok("shutting down"));
+    /// ```
+    pub fn is_closed(&self) -> bool {
+        self.sender_strong_count() == 0
+    }
+
+    fn attempt_recv(&self, channel: &mut LockedChannel<'_>) -> Poll<Received<T>> {
+        let reply = channel.call(CoreChannel::broadcast_recv);
+        reply.received().map(|received| match received {
+            Ok(number) => {
+                channel.note_receive(self.handle.slot);
+                Ok(self.received_value(channel, number))
+            }
+            Err(RecvError::Lagged(lost)) => {
+                let event = channel.note_lag(self.handle.slot, lost);
+                Err((RecvError::Lagged(lost), event))
+            }
+            Err(error) => Err((error, Event::default())),
+        })
+    }
+
+    #[inline(always)]
+    fn received_value(&self, channel: &mut LockedChannel<'_>, number: u64) -> Value<T> {
+        let values = &self.handle.channel.values;
+        values.borrow_mut(&mut channel.state).receive(number)
+    }
+}
+
+impl<T: Clone> Receiver<T> {
+    /// Creates a receiver of the same channel, which receives the values that are sent after this
+    /// call.
+    ///
+    /// As in tokio, it receives none of the values that this receiver has yet to receive. This
+    /// receiver is unchanged.
+    ///
+    /// # Examples
+    ///
+    /// ```
+    /// use yovanelum::broadcast::{self, error::TryRecvError};
+    ///
+    /// let (prices, mut chart) = broadcast::channel(4);
+    /// prices.send(101).unwrap();
+    /// let mut late = chart.resubscribe();
+    /// prices.send(102).unwrap();
+    /// assert_eq!(late.try_recv(), Ok(102));
+    /// assert_eq!(late.try_recv(), Err(TryRecvError::Empty));
+    /// assert_eq!(chart.try_recv(), Ok(101));
+    /// ```
+    #[track_caller]
+    pub fn resubscribe(&self) -> Receiver<T> {
+        Receiver {
+            handle: self.handle.create(
+                Kind::Receiver,
+                Word::Resubscribe,
+                CoreChannel::broadcast_resubscribe,
+            ),
+        }
+    }
+
+    /// Receives the next value, and waits for one if there is none.
+    ///
+    /// Returns a clone of the value. As in tokio, a receiver that lags is moved to the oldest value
+    /// that is still retained, and the next receive returns that value, unless it has been
+    /// overwritten too.
+    ///
+    /// # Cancel safety
+    ///
+    /// As in tokio, nothing has been received if the future is dropped before it completes, for
+    /// example by `select!`. A receive that is dropped is not recorded.
+    ///
+    /// # Errors
+    ///
+    /// - [`RecvError::Lagged`] if values were overwritten before this receiver received them.
+    /// - [`RecvError::Closed`] if every sender has been dropped and everything that was sent has
+    ///   been received.
+    ///
+    /// # Examples
+    ///
+    /// ```
+    /// use std::thread;
+    /// use yovanelum::broadcast::{self, error::RecvError};
+    /// use yovanelum::block_on;
+    ///
+    /// let (prices, mut chart) = broadcast::channel(2);
+    /// let exchange = thread::spawn(move || prices.send(101).unwrap());
+    /// block_on(async {
+    ///     assert_eq!(chart.recv().await, Ok(101));
+    ///     assert_eq!(chart.recv().await, Err(RecvError::Closed));
+    /// });
+    /// exchange.join().unwrap();
+    /// ```
+    ///
+    /// A receiver that lags:
+    ///
+    /// ```
+    /// use yovanelum::broadcast::{self, error::RecvError};
+    /// use yovanelum::block_on;
+    ///
+    /// let (prices, mut chart) = broadcast::channel(2);
+    /// for price in [101, 102, 103] {
+    ///     prices.send(price).unwrap();
+    /// }
+    /// block_on(async {
+    ///     assert_eq!(chart.recv().await, Err(RecvError::Lagged(1)));
+    ///     assert_eq!(chart.recv().await, Ok(102));
+    /// });
+    /// ```
+    #[track_caller]
+    pub fn recv(&mut self) -> impl Future<Output = Result<T, RecvError>> {
+        self.recv_by(Method::called("recv"))
+    }
+
+    /// Receives the next value for this method.
+    async fn recv_by(&mut self, method: Method) -> Result<T, RecvError> {
+        let received = self
+            .handle
+            .wait(WaitFor::Value, Word::Recv, method, |channel| {
+                self.attempt_recv(channel)
+            });
+        received_by(received.await)
+    }
+
+    /// [`recv`](Receiver::recv) without a future. Between polls the caller holds the state of the
+    /// call.
+    pub(crate) fn poll_recv(
+        &mut self,
+        called_at: CallSite,
+        context: &Context<'_>,
+        pending: &mut Pending,
+    ) -> Poll<Result<T, RecvError>> {
+        let method = Method {
+            name: "recv",
+            called_at,
+        };
+        let received = self.handle.poll_wait(
+            WaitFor::Value,
+            Word::Recv,
+            method,
+            pending,
+            context,
+            |channel| self.attempt_recv(channel),
+        );
+        received.map(received_by)
+    }
+
+    /// Receives the next value if there is one, without waiting.
+    ///
+    /// Returns a clone of the value. As in tokio, a receiver that lags is moved to the oldest value
+    /// that is still retained.
+    ///
+    /// # Errors
+    ///
+    /// - [`TryRecvError::Empty`] if there is no value now. Nothing has changed.
+    /// - [`TryRecvError::Lagged`] if values were overwritten before this receiver received them.
+    /// - [`TryRecvError::Closed`] if every sender has been dropped and everything that was sent has
+    ///   been received.
+    ///
+    /// # Examples
+    ///
+    /// ```
+    /// use yovanelum::broadcast::{self, error::TryRecvError};
+    ///
+    /// let (bus, mut listener) = broadcast::channel(4);
+    /// assert_eq!(listener.try_recv(), Err(TryRecvError::Empty));
+    /// bus.send("user created").unwrap();
+    /// drop(bus);
+    /// assert_eq!(listener.try_recv(), Ok("user created"));
+    /// assert_eq!(listener.try_recv(), Err(TryRecvError::Closed));
+    /// ```
+    #[track_caller]
+    pub fn try_recv(&mut self) -> Result<T, TryRecvError> {
+        let mut channel = self.handle.lock(Word::TryRecv, call_site());
+        let reply = channel.call(CoreChannel::broadcast_try_recv);
+        if let Reply::Lagged(lost) = reply {
+            let event = channel.note_lag(self.handle.slot, lost);
+            channel.unlock();
+            drop(event);
+            return Err(TryRecvError::Lagged(lost));
+        }
+        let number = reply.received_at_once()?;
+        channel.note_receive(self.handle.slot);
+        let value = self.received_value(&mut channel, number);
+        channel.unlock();
+        Ok(value.cloned())
+    }
+
+    /// Receives the next value, and blocks the current thread until there is one.
+    ///
+    /// As in tokio, it is [`recv`](Receiver::recv) for code that is not asynchronous. Unlike tokio,
+    /// it does not panic within a runtime: it blocks the thread there.
+    ///
+    /// # Errors
+    ///
+    /// As [`recv`](Receiver::recv).
+    ///
+    /// # Examples
+    ///
+    /// ```
+    /// use std::thread;
+    /// use yovanelum::broadcast;
+    ///
+    /// let (prices, mut chart) = broadcast::channel(4);
+    /// let screen = thread::spawn(move || chart.blocking_recv());
+    /// prices.send(101).unwrap();
+    /// assert_eq!(screen.join().unwrap(), Ok(101));
+    /// ```
+    #[track_caller]
+    pub fn blocking_recv(&mut self) -> Result<T, RecvError> {
+        block_on(self.recv_by(Method::called("blocking_recv")))
+    }
+}
+
+/// What a receive returns while the channel is locked. The event is dropped once it no longer is.
+type Received<T> = Result<Value<T>, (RecvError, Event)>;
+
+/// Returns what a receive returns to its caller, and tells of the event, if there is one.
+fn received_by<T: Clone>(received: Received<T>) -> Result<T, RecvError> {
+    match received {
+        Ok(value) => Ok(value.cloned()),
+        Err((error, event)) => {
+            drop(event);
+            Err(error)
+        }
+    }
+}
+
+impl<T> Drop for Receiver<T> {
+    fn drop(&mut self) {
+        let mut channel = self.handle.lock(Word::Drop, None);
+        let values = &self.handle.channel.values;
+        let unread = if values.borrow_mut(&mut channel.state).has_unread() {
+            channel.core().unread(self.handle.number)
+        } else {
+            0
+        };
+        let slot = self.handle.slot;
+        let (wakers, _) = channel.drop_handle(Kind::Receiver, slot, CoreChannel::broadcast_drop);
+        let unwanted = values.borrow_mut(&mut channel.state).drop_receiver(unread);
+        drop(channel);
+        wakers.wake();
+        drop(unwanted);
+    }
+}
+
+impl<T> fmt::Debug for Receiver<T> {
+    fn fmt(&self, f: &mut fmt::Formatter<'_>) -> fmt::Result {
+        write!(f, "broadcast::Receiver")
+    }
+}
+
+impl<T> Handle for Receiver<T> {
+    type Value = T;
+
+    fn recorded(&self) -> RecordedHandle<'_> {
+        self.handle.of_recorder()
+    }
+
+    fn set_text_of(&self, text_of: TextOf<T>) {
+        self.handle.channel.set_text_of(text_of);
+    }
+}

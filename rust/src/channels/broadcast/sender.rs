@@ -1,0 +1,388 @@
+//! The sending half of a broadcast channel.
+
+use super::error::SendError;
+use super::{BroadcastHandle, Receiver, WeakSender, open};
+use crate::channels::channel::{CoreChannel, call_site};
+use crate::channels::handle::Kind;
+use crate::channels::recorder::{Handle, RecordedHandle, TextOf};
+use crate::channels::wait::{Method, WaitFor};
+use crate::run::word::Word;
+use std::fmt;
+use std::future::Future;
+use std::task::Poll;
+
+/// The sending half of a broadcast channel.
+///
+/// [`channel`](super::channel) and [`Sender::new`] create the first sender, `clone` and
+/// [`WeakSender::upgrade`] create further ones. As in tokio, a sender may be used from many
+/// threads: each method needs only `&self`. The channel is closed when the last sender is dropped.
+///
+/// # Examples
+///
+/// ```
+/// use std::thread;
+/// use yovanelum::broadcast;
+///
+/// let (bus, mut audit) = broadcast::channel(16);
+/// let workers = ["mail", "backup"].map(|job| {
+///     let bus = bus.clone();
+///     thread::spawn(move || bus.send(job).unwrap())
+/// });
+/// for worker in workers {
+///     assert_eq!(worker.join().unwrap(), 1);
+/// }
+/// let mut done = [audit.try_recv().unwrap(), audit.try_recv().unwrap()];
+/// done.sort();
+/// assert_eq!(done, ["backup", "mail"]);
+/// ```
+pub struct Sender<T> {
+    pub(super) handle: BroadcastHandle<T>,
+}
+
+impl<T> Sender<T> {
+    /// Creates a broadcast channel with this capacity and without a receiver, and returns its first
+    /// sender.
+    ///
+    /// As in tokio, this is [`channel`](super::channel) without the receiver:
+    /// [`subscribe`](Sender::subscribe) creates one. The journal begins with the drop of receiver
+    /// 1, so the first receiver that is created has the number 2.
+    ///
+    /// # Panics
+    ///
+    /// Panics if the capacity is 0 or greater than 65,536.
+    ///
+    /// # Examples
+    ///
+    /// ```
+    /// use yovanelum::broadcast;
+    ///
+    /// let bus = broadcast::Sender::new(16);
+    /// assert!(bus.send("nobody listens").is_err());
+    /// let mut listener = bus.subscribe();
+    /// bus.send("started").unwrap();
+    /// assert_eq!(listener.try_recv(), Ok("started"));
+    /// ```
+    #[track_caller]
+    pub fn new(capacity: usize) -> Sender<T> {
+        // The core opens each channel with a receiver.
+        let (sender, receiver) = open(capacity);
+        drop(receiver);
+        sender
+    }
+
+    /// Sends a value to all receivers of the channel, and returns how many there are.
+    ///
+    /// The call never waits. If the channel is full, the value overwrites the oldest one.
+    ///
+    /// As in tokio, `Ok` does not mean that a receiver will get the value, since receivers may be
+    /// dropped or lag before. `Err` does not mean that later sends will fail, since
+    /// [`subscribe`](Sender::subscribe) may create a receiver.
+    ///
+    /// # Errors
+    ///
+    /// Returns [`SendError`] with the value if the channel has no receiver. The channel is then
+    /// unchanged: the value is not stored, and a receiver that is created later does not get it.
+    ///
+    /// # Examples
+    ///
+    /// ```
+    /// use yovanelum::broadcast;
+    ///
+    /// let (prices, chart) = broadcast::channel(4);
+    /// let ticker = prices.subscribe();
+    /// assert_eq!(prices.send(101).unwrap(), 2);
+    /// drop((chart, ticker));
+    /// assert_eq!(prices.send(102).unwrap_err().0, 102);
+    /// let mut late = prices.subscribe();
+    /// assert_eq!(prices.send(103).unwrap(), 1);
+    /// assert_eq!(late.try_recv(), Ok(103));
+    /// ```
+    #[track_caller]
+    pub fn send(&self, value: T) -> Result<usize, SendError<T>> {
+        if self.handle.channel.has_text_of() {
+            self.send_with_text(value)
+        } else {
+            self.send_with(value, None)
+        }
+    }
+
+    /// Sends a value with its text. It is apart, so that what is sent without one carries nothing
+    /// of it.
+    #[cold]
+    #[track_caller]
+    fn send_with_text(&self, value: T) -> Result<usize, SendError<T>> {
+        let text = self.handle.channel.text(&value);
+        self.send_with(value, text)
+    }
+
+    /// Sends a value, given its text if it has one.
+    #[inline(always)]
+    #[track_caller]
+    fn send_with(&self, value: T, text: Option<String>) -> Result<usize, SendError<T>> {
+        let mut channel = self.handle.lock(Word::Send, call_site());
+        let (number, reply) = channel.send(text, CoreChannel::broadcast_send);
+        let Some(receivers) = reply.sent() else {
+            return Err(SendError(value));
+        };
+        let values = self.handle.channel.values.borrow_mut(&mut channel.state);
+        let overwritten = values.push(number, value, receivers);
+        // As in tokio, the overwritten value is dropped before those who wait are woken.
+        channel.unlock_drop_and_wake(overwritten, WaitFor::Value);
+        Ok(receivers as usize)
+    }
+
+    /// Creates a receiver, which receives the values that are sent after this call.
+    ///
+    /// As in tokio, it receives none of the values that were sent before. Other receivers are not
+    /// affected.
+    ///
+    /// # Examples
+    ///
+    /// ```
+    /// use yovanelum::broadcast::{self, error::TryRecvError};
+    ///
+    /// let (prices, mut chart) = broadcast::channel(4);
+    /// prices.send(101).unwrap();
+    /// let mut late = prices.subscribe();
+    /// prices.send(102).unwrap();
+    /// assert_eq!(late.try_recv(), Ok(102));
+    /// assert_eq!(late.try_recv(), Err(TryRecvError::Empty));
+    /// assert_eq!(chart.try_recv(), Ok(101));
+    /// ```
+    #[track_caller]
+    pub fn subscribe(&self) -> Receiver<T> {
+        Receiver {
+            handle: self.handle.create(
+                Kind::Receiver,
+                Word::Subscribe,
+                CoreChannel::broadcast_subscribe,
+            ),
+        }
+    }
+
+    /// Creates a weak sender, which does not keep the channel open.
+    ///
+    /// As in tokio, the channel is closed when the last `Sender` is dropped, even if weak senders
+    /// are left. This sender can still be used.
+    ///
+    /// # Examples
+    ///
+    /// ```
+    /// use yovanelum::broadcast;
+    ///
+    /// let (bus, mut audit) = broadcast::channel(4);
+    /// let plugin = bus.downgrade();
+    /// plugin.upgrade().unwrap().send("plugin loaded").unwrap();
+    /// drop(bus);
+    /// assert!(plugin.upgrade().is_none());
+    /// assert_eq!(audit.try_recv(), Ok("plugin loaded"));
+    /// assert!(audit.is_closed());
+    /// ```
+    #[must_use = "a weak sender that isn't used does nothing"]
+    #[track_caller]
+    pub fn downgrade(&self) -> WeakSender<T> {
+        WeakSender {
+            handle: self.handle.create(
+                Kind::WeakSender,
+                Word::Downgrade,
+                CoreChannel::broadcast_downgrade,
+            ),
+        }
+    }
+
+    /// Returns the number of queued values.
+    ///
+    /// As in tokio, a value is queued until every receiver that was alive at its send has received
+    /// it or was dropped, or until it is overwritten. Unlike [`Receiver::len`], the number does not
+    /// include overwritten values.
+    ///
+    /// # Examples
+    ///
+    /// ```
+    /// use yovanelum::broadcast;
+    ///
+    /// let (prices, mut chart) = broadcast::channel(2);
+    /// for price in [101, 102, 103] {
+    ///     prices.send(price).unwrap();
+    /// }
+    /// assert_eq!(prices.len(), 2);
+    /// assert_eq!(chart.len(), 3);
+    /// drop(chart);
+    /// assert_eq!(prices.len(), 0);
+    /// ```
+    #[track_caller]
+    pub fn len(&self) -> usize {
+        self.handle.ask_count(
+            Word::SenderLen,
+            CoreChannel::broadcast_sender_len,
+            |core, _| core.queued(),
+        )
+    }
+
+    /// Returns `true` if no value is queued, as in tokio: if [`len`](Sender::len) is 0.
+    ///
+    /// # Examples
+    ///
+    /// ```
+    /// use yovanelum::broadcast;
+    ///
+    /// let (prices, mut chart) = broadcast::channel(2);
+    /// assert!(prices.is_empty());
+    /// prices.send(101).unwrap();
+    /// assert!(!prices.is_empty());
+    /// chart.try_recv().unwrap();
+    /// assert!(prices.is_empty());
+    /// ```
+    #[track_caller]
+    pub fn is_empty(&self) -> bool {
+        self.len() == 0
+    }
+
+    /// Returns the number of receivers that are alive.
+    ///
+    /// As in tokio, these are the receivers that a value is sent to, and not all of them need to
+    /// get it: a receiver may be dropped or lag before.
+    ///
+    /// # Examples
+    ///
+    /// ```
+    /// use yovanelum::broadcast;
+    ///
+    /// let (bus, mailer) = broadcast::channel::<&str>(4);
+    /// let audit = bus.subscribe();
+    /// assert_eq!(bus.receiver_count(), 2);
+    /// drop((mailer, audit));
+    /// assert_eq!(bus.receiver_count(), 0);
+    /// ```
+    #[track_caller]
+    pub fn receiver_count(&self) -> usize {
+        self.handle.ask_count(
+            Word::ReceiverCount,
+            CoreChannel::broadcast_receiver_count,
+            |core, _| core.receivers(),
+        )
+    }
+
+    /// Returns `true` if both senders belong to the same channel, as in tokio. It is not recorded.
+    ///
+    /// # Examples
+    ///
+    /// ```
+    /// use yovanelum::broadcast;
+    ///
+    /// let orders = broadcast::Sender::<u32>::new(4);
+    /// let refunds = broadcast::Sender::<u32>::new(4);
+    /// assert!(orders.same_channel(&orders.clone()));
+    /// assert!(!orders.same_channel(&refunds));
+    /// ```
+    pub fn same_channel(&self, other: &Self) -> bool {
+        self.handle.same_channel(&other.handle)
+    }
+
+    /// Waits until the channel has no receiver.
+    ///
+    /// As in tokio, the future completes when the number of receivers reaches zero;
+    /// [`subscribe`](Sender::subscribe) may create a receiver again. If there is none at the call,
+    /// it completes at once. If the future is dropped before it completes, nothing has changed. It
+    /// is recorded when it completes, as a [`receiver_count`](Sender::receiver_count) of 0.
+    ///
+    /// # Examples
+    ///
+    /// ```
+    /// use std::thread;
+    /// use yovanelum::{block_on, broadcast};
+    ///
+    /// let (prices, chart) = broadcast::channel::<u32>(4);
+    /// let window = thread::spawn(move || drop(chart));
+    /// block_on(prices.closed());
+    /// assert_eq!(prices.receiver_count(), 0);
+    /// window.join().unwrap();
+    /// ```
+    #[track_caller]
+    pub fn closed(&self) -> impl Future<Output = ()> {
+        let method = Method::called("closed");
+        self.handle
+            .wait(WaitFor::NoReceiver, Word::NoReceiver, method, |channel| {
+                if channel.core().receivers() > 0 {
+                    return Poll::Pending;
+                }
+                channel.call_that_waits(CoreChannel::broadcast_receiver_count);
+                Poll::Ready(())
+            })
+    }
+
+    /// Returns the number of senders that are alive, as in tokio. Weak senders are not counted. It
+    /// is not recorded.
+    ///
+    /// # Examples
+    ///
+    /// ```
+    /// use yovanelum::broadcast;
+    ///
+    /// let bus = broadcast::Sender::<u32>::new(4);
+    /// let other = bus.clone();
+    /// let _weak = bus.downgrade();
+    /// assert_eq!(bus.strong_count(), 2);
+    /// drop(other);
+    /// assert_eq!(bus.strong_count(), 1);
+    /// ```
+    pub fn strong_count(&self) -> usize {
+        self.handle.count(CoreChannel::senders)
+    }
+
+    /// Returns the number of weak senders that are alive, as in tokio. It is not recorded.
+    ///
+    /// # Examples
+    ///
+    /// ```
+    /// use yovanelum::broadcast;
+    ///
+    /// let bus = broadcast::Sender::<u32>::new(4);
+    /// assert_eq!(bus.weak_count(), 0);
+    /// let plugins = [bus.downgrade(), bus.downgrade()];
+    /// assert_eq!(bus.weak_count(), 2);
+    /// drop(plugins);
+    /// assert_eq!(bus.weak_count(), 0);
+    /// ```
+    pub fn weak_count(&self) -> usize {
+        self.handle.count(CoreChannel::weak_senders)
+    }
+}
+
+impl<T> Clone for Sender<T> {
+    /// Creates another sender of the same channel.
+    #[track_caller]
+    fn clone(&self) -> Sender<T> {
+        Sender {
+            handle: self.handle.create(
+                Kind::Sender,
+                Word::CloneSender,
+                CoreChannel::broadcast_clone_sender,
+            ),
+        }
+    }
+}
+
+impl<T> Drop for Sender<T> {
+    fn drop(&mut self) {
+        self.handle.drop_by(CoreChannel::broadcast_drop);
+    }
+}
+
+impl<T> fmt::Debug for Sender<T> {
+    fn fmt(&self, f: &mut fmt::Formatter<'_>) -> fmt::Result {
+        write!(f, "broadcast::Sender")
+    }
+}
+
+impl<T> Handle for Sender<T> {
+    type Value = T;
+
+    fn recorded(&self) -> RecordedHandle<'_> {
+        self.handle.of_recorder()
+    }
+
+    fn set_text_of(&self, text_of: TextOf<T>) {
+        self.handle.channel.set_text_of(text_of);
+    }
+}

@@ -1,0 +1,137 @@
+//! The last calls of a channel as they are copied for a journal, with all that its names say.
+
+use super::last_calls::LastCallsCopy;
+use super::{CallSite, ChannelState};
+use crate::channels::backend::{Kept, MOST_CHUNK};
+use crate::channels::wait::Wait;
+use crate::core::source::rw_law::NoMemory;
+use crate::run::clock::Times;
+use crate::run::names::Maker;
+use std::collections::BTreeMap;
+
+/// A copy of a channel's last calls.
+pub(crate) struct KeptChannel {
+    pub(crate) calls: Kept,
+    pub(crate) noted: NotedChannel,
+}
+
+/// A copy of what is known of a channel's last calls, beside the core. Its handles are known by
+/// their numbers in the channel's table, or by those that they had there before a renumbering, as
+/// in the calls.
+pub(crate) struct NotedChannel {
+    pub(crate) calls: LastCallsCopy,
+    pub(crate) name: Option<String>,
+    pub(crate) made_by: Option<Maker>,
+    /// The names of handles, by how many were created before.
+    pub(crate) names: BTreeMap<u64, String>,
+    /// The calls that wait, each with its handle.
+    pub(crate) waits: Vec<(u32, Wait)>,
+    /// Whether it is a watch.
+    pub(crate) is_watch: bool,
+    /// How many values it retains at most.
+    pub(crate) capacity: u64,
+}
+
+impl KeptChannel {
+    /// How many entries a lead can have at most, without the values that receivers have lost. It
+    /// has none if no call is left out.
+    pub(crate) fn most_of_lead(&self) -> u64 {
+        if self.noted.calls.count <= self.calls.len() {
+            return 0;
+        }
+        // A lead makes each handle that is alive, a value for each that is retained, and drops two.
+        u64::from(self.noted.calls.handles.len()) + self.noted.capacity + 2
+    }
+}
+
+impl NotedChannel {
+    /// How many calls were made before the last ones, which are so many.
+    pub(crate) fn before(&self, last: u64) -> u64 {
+        self.calls.count.saturating_sub(last)
+    }
+
+    /// Returns where the last calls were made, which are so many. The first ones may not be known.
+    pub(crate) fn sites(&self, last: u64) -> impl Iterator<Item = CallSite> {
+        let (calls, sites) = (last as usize, &self.calls.sites);
+        let unknown = calls.saturating_sub(sites.len());
+        let known = &sites[sites.len() - (calls - unknown)..];
+        std::iter::repeat_n(None, unknown).chain(known.iter().copied())
+    }
+
+    /// Returns the name of a handle, before which so many were created.
+    pub(crate) fn name_of(&self, nth: u64) -> Option<&String> {
+        self.names.get(&nth)
+    }
+}
+
+impl ChannelState {
+    /// Keeps the last calls alone, from the opening on. The channel was opened now, and no call was
+    /// made. At an error nothing has changed.
+    pub(crate) fn fly(&mut self, chunk: usize, times: Times) -> Result<(), NoMemory> {
+        self.core.fly(chunk)?;
+        self.set_last_calls(chunk, times);
+        Ok(())
+    }
+
+    /// Goes on with the last calls alone. It makes each recorded call again. At an error nothing
+    /// has changed.
+    pub(crate) fn keep_last(&mut self, times: Times) -> Result<(), NoMemory> {
+        if self.is_recorded && self.keeps_all {
+            self.core.keep_last(MOST_CHUNK)?;
+            self.set_last_calls(MOST_CHUNK, times);
+        }
+        Ok(())
+    }
+
+    /// Notes the last calls by their chunks, from what is known of all calls.
+    fn set_last_calls(&mut self, chunk: usize, times: Times) {
+        let capacity = self.retained_capacity();
+        self.last_calls = Some(Box::new(self.noted(chunk, capacity, times)));
+        self.keeps_all = false;
+        self.locations = Default::default();
+        self.texts = Default::default();
+        self.waited = Default::default();
+        self.cancelled = Default::default();
+        self.actors = 0;
+    }
+
+    /// How many values the channel retains at most.
+    fn retained_capacity(&self) -> usize {
+        let capacity = self.core.capacity();
+        capacity.map_or(1, usize::next_power_of_two)
+    }
+
+    /// Copies the last calls, or all calls if all are recorded. Returns `None` if the recording of
+    /// the last calls has ended.
+    pub(crate) fn kept(&mut self, times: Times) -> Result<Option<KeptChannel>, NoMemory> {
+        let keeps_past = self.core.keeps_past();
+        let noted = match &self.last_calls {
+            Some(last) => last.copy(keeps_past)?,
+            None if self.core.recorded().keeps_last() => return Ok(None),
+            None => self.noted(MOST_CHUNK, usize::MAX, times).copy(false)?,
+        };
+        let calls = self.core.recorded().kept(MOST_CHUNK)?;
+        // One by one, since `collect` would sort them in one list first.
+        let mut names = BTreeMap::new();
+        names.extend(noted.names.iter().cloned());
+        let alive = self.handle_names.iter();
+        names.extend(alive.map(|(number, name)| (self.core.nth(*number as u32), name.clone())));
+        let waits = self.waits.items();
+        let kept_number = |handle: u32| {
+            let number = self.core.number_in_table(handle);
+            let last = self.last_calls.as_ref();
+            last.map_or(number, |last| last.kept_number(number, keeps_past))
+        };
+        let waits = waits.map(|wait| (kept_number(wait.handle), *wait));
+        let noted = NotedChannel {
+            waits: waits.collect(),
+            calls: noted,
+            name: self.name.clone(),
+            made_by: self.made_by.clone(),
+            names,
+            is_watch: self.core.capacity().is_none(),
+            capacity: self.retained_capacity() as u64,
+        };
+        Ok(Some(KeptChannel { calls, noted }))
+    }
+}

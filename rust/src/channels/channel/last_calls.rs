@@ -1,0 +1,338 @@
+//! What is known of the last calls of a channel, beside the core: where and by whom each was made,
+//! and when. As the core does, it keeps two chunks, and drops the older one whole.
+
+use super::CallSite;
+use super::locations::Locations;
+use super::made_handles::{MadeHandles, PastHandles};
+use crate::channels::backend::Actor;
+use crate::core::lists::reserved;
+use crate::core::source::rw_law::NoMemory;
+use crate::run::clock::{Clock, Moment, Times};
+use std::collections::VecDeque;
+use std::mem;
+use std::sync::Arc;
+
+/// The time is noted at each chunk's first call, and at each call after it that is one of so many.
+const CALLS_BETWEEN_TIMES: usize = 1024;
+
+/// The last calls of a channel.
+pub(crate) struct LastCalls {
+    // How many calls a chunk has.
+    most: usize,
+    // How many values the channel retains.
+    capacity: usize,
+    // How many calls were made before those of the chunks.
+    before: u64,
+    older: Chunk,
+    newer: Chunk,
+    // The texts of values that were sent before, and may be retained.
+    retained: VecDeque<(u64, Arc<str>)>,
+    pub(super) handles: MadeHandles,
+    // The handles of before the table was numbered anew, where calls are kept by their previous
+    // numbers.
+    past: PastHandles,
+    clock: Clock,
+}
+
+/// The calls of a chunk, and what is dropped with them.
+#[derive(Default)]
+struct Chunk {
+    sites: Vec<CallSite>,
+    // A bit for each actor that made one of them.
+    actors: u64,
+    // How many calls were made before each that waited, and before each drop that was made by the
+    // drop of a named future.
+    waited: Vec<u64>,
+    cancelled: Vec<u64>,
+    texts: Vec<TextOfValue>,
+    // The names of handles that were dropped, by how many handles were created before.
+    names: Vec<(u64, String)>,
+    moments: Vec<Moment>,
+}
+
+struct TextOfValue {
+    number: u64,
+    text: Arc<str>,
+    is_sent: bool,
+}
+
+impl Chunk {
+    fn clear(&mut self) {
+        self.sites.clear();
+        self.actors = 0;
+        self.waited.clear();
+        self.cancelled.clear();
+        self.texts.clear();
+        self.names.clear();
+        self.moments.clear();
+    }
+}
+
+/// A copy of what is known of the last calls.
+pub(crate) struct LastCallsCopy {
+    /// How many calls were made in all.
+    pub(crate) count: u64,
+    /// Where the last ones of them were made.
+    pub(crate) sites: Vec<CallSite>,
+    /// How many calls were made before each that waited.
+    pub(crate) waited: Vec<u64>,
+    /// The same of each drop that was made by the drop of a named future.
+    pub(crate) cancelled: Vec<u64>,
+    /// The texts of values, by their numbers.
+    pub(crate) texts: Vec<(u64, Arc<str>)>,
+    /// The names of dropped handles, by how many were created before.
+    pub(crate) names: Vec<(u64, String)>,
+    pub(crate) handles: MadeHandles,
+    pub(crate) moments: Vec<Moment>,
+}
+
+impl LastCalls {
+    /// Those of a channel without calls, of which each chunk has so many, and which retains so many
+    /// values.
+    pub(super) fn new(most: usize, capacity: usize, times: Times) -> LastCalls {
+        LastCalls {
+            most,
+            capacity,
+            before: 0,
+            older: Chunk::default(),
+            newer: Chunk::default(),
+            retained: VecDeque::new(),
+            handles: MadeHandles::default(),
+            past: PastHandles::default(),
+            clock: Clock::new(times),
+        }
+    }
+
+    /// Adds all calls of a channel, of which these actors have made some, and its handles. What
+    /// there is to say of the calls is added after them.
+    pub(super) fn add_all(&mut self, locations: &Locations, actors: u64) {
+        for site in locations.of_calls.iter() {
+            if self.newer.sites.len() >= self.most {
+                self.turn();
+            }
+            self.newer.sites.push(*site);
+        }
+        self.older.actors = actors;
+        for site in locations.of_handles.iter() {
+            self.handles.add(*site);
+        }
+    }
+
+    /// Notes which calls have waited, and which were drops by the drop of a named future.
+    pub(super) fn add_indexes(&mut self, waited: &[u64], cancelled: &[u64]) {
+        self.older.waited.extend(waited);
+        self.older.cancelled.extend(cancelled);
+    }
+
+    /// How many calls were made in all.
+    fn count(&self) -> u64 {
+        self.before + (self.older.sites.len() + self.newer.sites.len()) as u64
+    }
+
+    /// Returns how many calls were made before the last one, if there was one.
+    pub(super) fn last(&self) -> Option<u64> {
+        self.count().checked_sub(1)
+    }
+
+    /// How many calls a chunk has.
+    pub(super) fn chunk(&self) -> usize {
+        self.most
+    }
+
+    /// Whether the next call begins a chunk.
+    #[inline]
+    pub(super) fn has_full_chunk(&self) -> bool {
+        self.newer.sites.len() >= self.most
+    }
+
+    /// Adds a call that is about to be made here by this actor, and gets this stamp.
+    #[inline]
+    pub(super) fn add(&mut self, called_at: CallSite, actor: Actor, stamp: u64) {
+        if self.newer.sites.len() % CALLS_BETWEEN_TIMES == 0 {
+            self.note_time(stamp);
+        }
+        self.newer.sites.push(called_at);
+        self.newer.actors |= actor.bit();
+    }
+
+    /// Notes what time it is at a call with this stamp.
+    #[cold]
+    #[inline(never)]
+    pub(super) fn note_time(&mut self, stamp: u64) {
+        self.newer.moments.extend(self.clock.moment(stamp));
+    }
+
+    /// Removes the call that was added last, since it wasn't made. Returns where it was to be.
+    pub(super) fn remove_last(&mut self) -> CallSite {
+        let site = self.newer.sites.pop().flatten();
+        if self.newer.sites.len() % CALLS_BETWEEN_TIMES == 0 {
+            self.newer.moments.pop();
+        }
+        site
+    }
+
+    /// Drops the older chunk, since the newer one is full.
+    pub(super) fn turn(&mut self) {
+        self.before += self.older.sites.len() as u64;
+        self.retain_texts();
+        self.older.clear();
+        mem::swap(&mut self.older, &mut self.newer);
+    }
+
+    /// Keeps the texts of the older chunk's values that the channel may retain after it.
+    fn retain_texts(&mut self) {
+        let sent = self.older.texts.drain(..).filter(|text| text.is_sent);
+        self.retained.extend(sent.map(|it| (it.number, it.text)));
+        let too_many = self.retained.len().saturating_sub(self.capacity);
+        self.retained.drain(..too_many);
+    }
+
+    /// Says that the handles of the table have other numbers now. `before` has the previous ones,
+    /// by which the core keeps the calls so far.
+    pub(super) fn renumber(&mut self, before: &[u32]) {
+        self.past.renumber(&mut self.handles, before);
+    }
+
+    /// Returns the number by which the calls are kept, of a handle of the table with this number.
+    /// `keeps_past` says whether they are kept by the previous numbers.
+    pub(super) fn kept_number(&self, handle: u32, keeps_past: bool) -> u32 {
+        if keeps_past {
+            self.past.number(handle)
+        } else {
+            handle
+        }
+    }
+
+    /// Notes that the last call waited.
+    pub(super) fn note_waited(&mut self) {
+        let last = self.last();
+        self.newer.waited.extend(last);
+    }
+
+    /// Notes that the last call was a drop by the drop of a named future.
+    pub(super) fn note_cancelled(&mut self) {
+        let last = self.last();
+        self.newer.cancelled.extend(last);
+    }
+
+    /// Notes the text of a value, which was sent unless there was no receiver.
+    pub(super) fn add_text(&mut self, number: u64, text: String, is_sent: bool) {
+        let text = text.into();
+        self.newer.texts.push(TextOfValue {
+            number,
+            text,
+            is_sent,
+        });
+    }
+
+    /// Notes the name of a handle that the last call has dropped, before which so many were
+    /// created.
+    pub(super) fn add_name(&mut self, nth: u64, name: String) {
+        self.newer.names.push((nth, name));
+    }
+
+    /// Returns which actors have made the calls: a bit for each.
+    pub(super) fn actors(&self) -> u64 {
+        self.older.actors | self.newer.actors
+    }
+
+    /// Returns a copy, to be read while the channel is used. `keeps_past` says whether the calls
+    /// are kept by the numbers that handles had before the last renumbering.
+    pub(super) fn copy(&self, keeps_past: bool) -> Result<LastCallsCopy, NoMemory> {
+        let chunks = [&self.older, &self.newer];
+        let texts = chunks.iter().flat_map(|chunk| &chunk.texts);
+        let texts = texts.map(|it| (it.number, it.text.clone()));
+        let count = self.retained.len() + self.older.texts.len() + self.newer.texts.len();
+        let mut all_texts = reserved(count)?;
+        all_texts.extend(self.retained.iter().cloned());
+        all_texts.extend(texts);
+        Ok(LastCallsCopy {
+            count: self.count(),
+            sites: joined(chunks.map(|chunk| &*chunk.sites))?,
+            waited: joined(chunks.map(|chunk| &*chunk.waited))?,
+            cancelled: joined(chunks.map(|chunk| &*chunk.cancelled))?,
+            texts: all_texts,
+            names: joined(chunks.map(|chunk| &*chunk.names))?,
+            handles: if keeps_past {
+                self.past.with(&self.handles)?
+            } else {
+                self.handles.copy()?
+            },
+            moments: joined(chunks.map(|chunk| &*chunk.moments))?,
+        })
+    }
+}
+
+/// Copies two lists into one.
+fn joined<T: Clone>(lists: [&[T]; 2]) -> Result<Vec<T>, NoMemory> {
+    let mut joined = reserved(lists.iter().map(|list| list.len()).sum())?;
+    for list in lists {
+        joined.extend_from_slice(list);
+    }
+    Ok(joined)
+}
+
+#[cfg(test)]
+mod tests {
+    use super::super::call_site;
+    use super::*;
+
+    fn calls(most: usize) -> LastCalls {
+        LastCalls::new(most, 2, Times::begin())
+    }
+
+    fn add(calls: &mut LastCalls, actor: usize) {
+        if calls.has_full_chunk() {
+            calls.turn();
+        }
+        let stamp = calls.count() + 1;
+        calls.add(call_site(), Actor::of(actor), stamp);
+    }
+
+    #[test]
+    fn a_chunk_is_dropped_with_all_that_is_known_of_its_calls() {
+        let mut calls = calls(3);
+        add(&mut calls, 5);
+        calls.note_waited();
+        calls.note_cancelled();
+        calls.add_name(7, "gone".into());
+        (0..5).for_each(|_| add(&mut calls, 6));
+        let copy = calls.copy(false).unwrap();
+        assert_eq!((copy.count, copy.sites.len()), (6, 6));
+        assert_eq!((copy.waited, copy.cancelled), (vec![0], vec![0]));
+        assert_eq!(copy.names, [(7, "gone".into())]);
+        assert_eq!(calls.actors(), 1 << 5 | 1 << 6);
+        add(&mut calls, 6);
+        let copy = calls.copy(false).unwrap();
+        assert_eq!((copy.count, copy.sites.len()), (7, 4));
+        assert!(copy.waited.is_empty() && copy.cancelled.is_empty() && copy.names.is_empty());
+        assert_eq!(calls.actors(), 1 << 6);
+    }
+
+    #[test]
+    fn texts_stay_while_their_values_are_in_the_window_or_may_be_retained() {
+        let mut calls = calls(2);
+        for number in 0..8 {
+            add(&mut calls, 0);
+            // There was no receiver for each third value.
+            calls.add_text(number, number.to_string(), number % 3 != 2);
+        }
+        let texts = calls.copy(false).unwrap().texts;
+        let numbers: Vec<_> = texts.iter().map(|(number, _)| *number).collect();
+        assert_eq!(numbers, [1, 3, 4, 5, 6, 7]);
+    }
+
+    #[test]
+    fn a_call_that_is_not_made_leaves_nothing() {
+        let mut calls = calls(2);
+        for _ in 0..1000 {
+            add(&mut calls, 0);
+            calls.remove_last();
+        }
+        let copy = calls.copy(false).unwrap();
+        assert_eq!(
+            (copy.count, copy.sites.len(), copy.moments.len()),
+            (0, 0, 0)
+        );
+    }
+}

@@ -1,0 +1,375 @@
+//! Calls, which are made while the channel is locked.
+
+use super::{Call, CallSite, ChannelState, CoreChannel, NO_SLOT, RecordedChannel, Send, Slot};
+use crate::channels::actors;
+use crate::channels::backend::{Actor, Caller};
+use crate::channels::events::{Close, Event, Lag};
+use crate::channels::handle::Kind;
+use crate::channels::lock::lock;
+use crate::channels::queue::ItemNumber;
+use crate::channels::recorder::{DumpRequest, Shared};
+use crate::channels::turns::Permit;
+use crate::channels::wait::{Awaited, Look, Method, Wait, WaitFor};
+use crate::channels::wakers::{WakeAtEnd, Wakers};
+use crate::run::clock::now;
+use crate::run::reply::Reply;
+use std::sync::{Arc, MutexGuard};
+
+/// A channel whose lock is held, for the calls of one actor by one handle.
+///
+/// What each recorded call does is inlined into its caller. What only a replay does, a value with a
+/// text, a future that waits, or the end of a recording is in functions of its own. Where debug
+/// assertions are on, nothing is inlined into another package: that of a test may be compiled
+/// without optimisation, and this one with it.
+pub(crate) struct LockedChannel<'a> {
+    pub(crate) state: MutexGuard<'a, ChannelState>,
+    channel: &'a RecordedChannel,
+    // Of the next call, in a replay.
+    permit: Option<Permit<'a>>,
+    actor: Actor,
+    handle: u32,
+    called_at: CallSite,
+    // The stamp of the last call, if it is recorded.
+    stamp: u64,
+}
+
+impl RecordedChannel {
+    /// Locks the channel for a call by the handle with this number, which is made here in the
+    /// source, and has its turn by this permit.
+    #[cfg_attr(debug_assertions, inline(never))]
+    #[cfg_attr(not(debug_assertions), inline)]
+    pub(crate) fn lock<'a>(
+        &'a self,
+        permit: Option<Permit<'a>>,
+        handle: u32,
+        called_at: CallSite,
+    ) -> LockedChannel<'a> {
+        let actor = self.recorder.actor(called_at);
+        LockedChannel {
+            state: lock(&self.state),
+            channel: self,
+            permit,
+            actor,
+            handle,
+            called_at,
+            stamp: 0,
+        }
+    }
+
+    /// Notes that the receiver with this number, in this slot, was told here that it has lost
+    /// values. Returns the event.
+    // What is cold gets what it needs, and not a `LockedChannel`, which would be stored in memory
+    // for it at each call.
+    #[cold]
+    #[inline(never)]
+    fn note_lag(
+        &self,
+        state: &mut ChannelState,
+        receiver: (u32, Slot),
+        (received_at, stamp): (CallSite, u64),
+        lost: u64,
+    ) -> Event {
+        state.receivers.lose(receiver.1, lost);
+        let dump = self.note_event(state, stamp, |recorder, state| {
+            recorder.dump_on_lag(&self.state, state, receiver.0, lost)
+        });
+        Event::lag(&self.recorder, dump, || {
+            Lag::new(state, receiver, received_at, lost)
+        })
+    }
+
+    /// Returns the event of the drop of the last sender.
+    #[cold]
+    #[inline(never)]
+    fn note_close(&self, state: &mut ChannelState, stamp: u64) -> Event {
+        let dump = self.note_event(state, stamp, |recorder, state| {
+            recorder.dump_on_close(&self.state, state)
+        });
+        Event::close(&self.recorder, dump, || Close::new(state))
+    }
+
+    /// Notes the time of an event, and returns the dump that it calls for.
+    fn note_event(
+        &self,
+        state: &mut ChannelState,
+        stamp: u64,
+        dump: impl FnOnce(&Arc<Shared>, &mut ChannelState) -> Option<Box<DumpRequest>>,
+    ) -> Option<Box<DumpRequest>> {
+        state.last_calls.as_mut()?.note_time(stamp);
+        dump(self.recorder.0.as_ref()?, state)
+    }
+}
+
+/// Lets the next call of a replay come, since the one with this permit is made. `text` is that of
+/// the value that it has sent.
+#[cold]
+fn tell_made(permit: Option<Permit<'_>>, is_recorded: bool, text: Option<&str>) {
+    if let Some(permit) = permit.filter(|_| is_recorded) {
+        permit.made(text);
+    }
+}
+
+impl<'a> LockedChannel<'a> {
+    /// Makes a call.
+    #[cfg_attr(debug_assertions, inline(never))]
+    #[cfg_attr(not(debug_assertions), inline(always))]
+    pub(crate) fn call(&mut self, call: Call) -> Reply {
+        let handle = self.handle;
+        self.call_core(&None, move |core, caller| call(core, caller, handle))
+    }
+
+    /// Makes a call that creates a handle of this kind, and returns its slot with the reply. If a
+    /// journal can't name that handle, the recording of this channel ends before.
+    #[cfg_attr(debug_assertions, inline(never))]
+    #[cfg_attr(not(debug_assertions), inline(always))]
+    pub(crate) fn create(&mut self, kind: Kind, call: Call) -> (Reply, Slot) {
+        if self.state.names_no_more_handles() {
+            self.channel.end_for_handles(&mut self.state);
+        }
+        let reply = self.call(call);
+        let Reply::New(number) = reply else {
+            return (reply, NO_SLOT);
+        };
+        self.state.store_making(self.called_at);
+        let slot = match kind {
+            Kind::Receiver => self.state.receivers.add(number as u32, self.called_at),
+            Kind::Sender | Kind::WeakSender => NO_SLOT,
+        };
+        (reply, slot)
+    }
+
+    /// Makes a call that passes a new value to the core, by the value's number, and stores its
+    /// text. Returns the number with the reply.
+    #[cfg_attr(debug_assertions, inline(never))]
+    #[cfg_attr(not(debug_assertions), inline(always))]
+    pub(crate) fn send(&mut self, text: Option<String>, call: Send) -> (u64, Reply) {
+        let state = &mut *self.state;
+        let (handle, number) = (self.handle, state.value_count);
+        state.value_count += 1;
+        let reply = self.call_core(&text, move |core, caller| {
+            call(core, caller, handle, number)
+        });
+        match reply {
+            Reply::NoReceivers(_) => self.state.unsent_count += 1,
+            _ => self.state.last_send.note(self.called_at),
+        }
+        if let Some(text) = text {
+            let is_sent = !matches!(reply, Reply::NoReceivers(_));
+            self.state.store_text(number, text, is_sent);
+        }
+        (number, reply)
+    }
+
+    /// Makes a call. It gets the recorder's next number under the channel's lock, so stamps differ
+    /// and are in the order of the calls: on each channel, and on several channels if one call
+    /// returned before the other began. `text` is that of the value that it sends.
+    // Where it isn't inlined, the core's call is one by a pointer.
+    #[inline(always)]
+    fn call_core(
+        &mut self,
+        text: &Option<String>,
+        call: impl Fn(&mut CoreChannel, Caller) -> Reply,
+    ) -> Reply {
+        let state = &mut *self.state;
+        let clock = match &self.channel.recorder.0 {
+            Some(recorder) => {
+                let caller = (self.actor, self.called_at);
+                self.channel.tick(recorder, state, caller)
+            }
+            None => 0,
+        };
+        self.stamp = clock + 1;
+        let caller = Caller {
+            actor: self.actor,
+            clock,
+        };
+        let reply = call(&mut state.core, caller);
+        if !reply.leaves_entry() {
+            let permit = self.permit.take();
+            return self
+                .channel
+                .end_unrecorded(state, permit, caller, reply, call);
+        }
+        if self.permit.is_some() {
+            tell_made(self.permit.take(), state.is_recorded, text.as_deref());
+        }
+        reply
+    }
+
+    /// Makes a call that waits, and for which a journal has the word of one that doesn't.
+    pub(crate) fn call_that_waits(&mut self, call: Call) {
+        self.call(call);
+        self.state.note_waited();
+    }
+
+    /// Notes that the receiver in this slot has received a value.
+    #[cfg_attr(debug_assertions, inline(never))]
+    #[cfg_attr(not(debug_assertions), inline(always))]
+    pub(crate) fn note_receive(&mut self, slot: Slot) {
+        let state = &mut *self.state;
+        let stamp = if state.is_recorded { self.stamp } else { 0 };
+        state.receivers.receive(slot, self.called_at, stamp);
+    }
+
+    /// Notes that the receiver in this slot was told that it has lost values. Returns the event, to
+    /// be dropped once the channel is unlocked.
+    pub(crate) fn note_lag(&mut self, slot: Slot, lost: u64) -> Event {
+        let (state, receiver) = (&mut *self.state, (self.handle, slot));
+        let at = (self.called_at, self.stamp);
+        self.channel.note_lag(state, receiver, at, lost)
+    }
+
+    /// Returns the greatest stamp that a recorded call can have so far.
+    pub(crate) fn clock(&self) -> u64 {
+        let recorder = self.channel.recorder.0.as_ref();
+        recorder.map_or(0, |recorder| recorder.last())
+    }
+
+    /// Unlocks the channel.
+    #[cfg_attr(debug_assertions, inline(never))]
+    #[cfg_attr(not(debug_assertions), inline(always))]
+    pub(crate) fn unlock(self) {}
+
+    /// Unlocks the channel without a call, and returns the permit of the call.
+    pub(crate) fn into_permit(self) -> Option<Permit<'a>> {
+        self.permit
+    }
+
+    /// Says that the call has to wait, if it was its turn in a replay.
+    #[inline]
+    pub(crate) fn would_wait(&mut self) {
+        if let Some(permit) = self.permit.take() {
+            permit.would_wait();
+        }
+    }
+
+    /// Lists a call of the handle, which is of this kind, among those that wait since this time of
+    /// the clock. Returns its number there.
+    pub(crate) fn list_wait(
+        &mut self,
+        kind: Kind,
+        awaited: Awaited,
+        method: Method,
+        since: u64,
+    ) -> ItemNumber {
+        self.state.waits.add(Wait {
+            actor: self.actor,
+            handle: self.handle,
+            kind,
+            awaited,
+            method,
+            since,
+            began: now(),
+        })
+    }
+
+    /// Whether the channel belongs to a recorder.
+    #[inline]
+    pub(crate) fn has_recorder(&self) -> bool {
+        self.channel.recorder.0.is_some()
+    }
+
+    /// Notes this call as the look with this number. The numbers of looks that were noted before
+    /// are below it, or one less.
+    #[inline]
+    pub(crate) fn note_look(&mut self, number: usize) {
+        let (actor, called_at) = (self.actor, self.called_at);
+        let look = Look { actor, called_at };
+        match self.state.looks.get_mut(number) {
+            Some(noted) => *noted = look,
+            None => self.state.looks.push(look),
+        }
+    }
+
+    /// Returns the look with this number, if it was noted.
+    pub(crate) fn look(&self, number: usize) -> Option<Look> {
+        self.state.looks.get(number).copied()
+    }
+
+    /// Makes the call that drops the handle. Returns the futures that wait for it: those of
+    /// receivers if it was the last sender, and those of senders if it was the last receiver. The
+    /// event is to be dropped once they are woken.
+    #[cfg_attr(debug_assertions, inline(never))]
+    #[cfg_attr(not(debug_assertions), inline(always))]
+    pub(crate) fn drop_handle(&mut self, kind: Kind, slot: Slot, call: Call) -> (Wakers, Event) {
+        self.call(call);
+        self.state.remove_name(self.handle);
+        if actors::is_dropping_future() {
+            self.state.note_cancelled();
+        }
+        match kind {
+            Kind::Sender if self.core().senders() == 0 => {
+                self.state.note_last_drop(kind);
+                let event = self.channel.note_close(&mut self.state, self.stamp);
+                (self.remove_wakers(WaitFor::Value), event)
+            }
+            Kind::Receiver => {
+                self.state.receivers.remove(slot);
+                let wakers = if self.state.receivers.is_empty() {
+                    self.state.note_last_drop(kind);
+                    self.remove_wakers(WaitFor::NoReceiver)
+                } else {
+                    Wakers::default()
+                };
+                (wakers, Event::default())
+            }
+            _ => (Wakers::default(), Event::default()),
+        }
+    }
+
+    /// Whether the handle, a receiver of a watch, has seen the value.
+    #[cfg_attr(debug_assertions, inline(never))]
+    #[cfg_attr(not(debug_assertions), inline(always))]
+    pub(crate) fn has_seen(&mut self) -> bool {
+        self.state.core.seen(self.handle)
+    }
+
+    /// Returns the core's channel, to read from it. That leaves no entry.
+    #[inline]
+    pub(crate) fn core(&mut self) -> &mut CoreChannel {
+        &mut self.state.core
+    }
+
+    /// Unlocks the channel, and then wakes the futures that wait for this.
+    #[cfg_attr(debug_assertions, inline(never))]
+    #[cfg_attr(not(debug_assertions), inline(always))]
+    pub(crate) fn unlock_and_wake(mut self, wait_for: WaitFor) {
+        if !self.state.queue(wait_for).is_empty() {
+            self.unlock_and_wake_each(wait_for);
+        }
+    }
+
+    #[cold]
+    fn unlock_and_wake_each(mut self, wait_for: WaitFor) {
+        let wakers = self.remove_wakers(wait_for);
+        drop(self);
+        wakers.wake();
+    }
+
+    /// Unlocks the channel, drops a value, and then wakes the futures that wait for this. They are
+    /// woken also if the drop panics.
+    #[cfg_attr(debug_assertions, inline(never))]
+    #[cfg_attr(not(debug_assertions), inline(always))]
+    pub(crate) fn unlock_drop_and_wake<V>(mut self, dropped: V, wait_for: WaitFor) {
+        if !self.state.queue(wait_for).is_empty() {
+            self.unlock_drop_and_wake_each(dropped, wait_for);
+        } else {
+            drop(self);
+            drop(dropped);
+        }
+    }
+
+    #[cold]
+    fn unlock_drop_and_wake_each<V>(mut self, dropped: V, wait_for: WaitFor) {
+        let wakers = WakeAtEnd(self.remove_wakers(wait_for));
+        drop(self);
+        drop(dropped);
+        drop(wakers);
+    }
+
+    /// Removes the futures that wait for this, and returns their wakers.
+    #[inline]
+    pub(crate) fn remove_wakers(&mut self, wait_for: WaitFor) -> Wakers {
+        self.state.queue(wait_for).remove_all()
+    }
+}

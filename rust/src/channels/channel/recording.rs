@@ -1,0 +1,143 @@
+//! How a call of a channel is recorded: with all others, among the last ones, or not at all.
+
+use super::{CallSite, ChannelState, CoreChannel, RecordedChannel};
+use crate::channels::backend::{Actor, Caller};
+use crate::channels::recorder::Shared;
+use crate::channels::turns::Permit;
+use crate::run::reply::Reply;
+
+impl RecordedChannel {
+    /// Stores by whom and where the next call is made, if this recorder is to record it, and
+    /// returns the clock's number for it. A call that isn't recorded leaves the clock as it is,
+    /// which the threads of all channels of the recorder write.
+    #[inline(always)]
+    pub(super) fn tick(
+        &self,
+        recorder: &Shared,
+        state: &mut ChannelState,
+        (actor, called_at): (Actor, CallSite),
+    ) -> u64 {
+        if !state.keeps_all {
+            return self.tick_apart(recorder, state, (actor, called_at));
+        }
+        if recorder.is_past_limit() {
+            return self.tick_past_limit(recorder, state, (actor, called_at));
+        }
+        // It is added before the call, so that nothing of the reply has to be stored meanwhile.
+        state.locations.of_calls.push(called_at);
+        state.actors |= actor.bit();
+        recorder.tick()
+    }
+
+    /// As [`tick`](RecordedChannel::tick), where the last calls alone are kept, or none.
+    // What is cold is laid out apart, and so leaves the calls that are recorded as fast as they
+    // are.
+    #[cold]
+    #[inline(never)]
+    fn tick_apart(
+        &self,
+        recorder: &Shared,
+        state: &mut ChannelState,
+        (actor, called_at): (Actor, CallSite),
+    ) -> u64 {
+        if state.has_full_chunk() {
+            state.turn_chunks();
+        }
+        let Some(last) = &mut state.last_calls else {
+            return 0;
+        };
+        let clock = recorder.tick();
+        last.add(called_at, actor, clock + 1);
+        clock
+    }
+
+    /// As [`tick`](RecordedChannel::tick), once a channel of the recorder has recorded as many
+    /// calls as a journal takes. This one then keeps its last calls alone, or none.
+    #[cold]
+    #[inline(never)]
+    fn tick_past_limit(
+        &self,
+        recorder: &Shared,
+        state: &mut ChannelState,
+        caller: (Actor, CallSite),
+    ) -> u64 {
+        if recorder.has_ended() || state.keep_last(recorder.times).is_err() {
+            self.end_recording(state);
+            return 0;
+        }
+        self.tick_apart(recorder, state, caller)
+    }
+
+    /// Ends the recording of this channel, whose state this is. A replay no longer orders its
+    /// calls.
+    #[cold]
+    fn end_recording(&self, state: &mut ChannelState) {
+        state.end_recording();
+        if let Some(ordered) = &self.ordered {
+            ordered.set_free();
+        }
+    }
+
+    /// Makes room for a further handle in a channel that keeps its last calls, or ends the
+    /// recording of this channel, since no journal can name a further handle of it.
+    #[cold]
+    pub(super) fn end_for_handles(&self, state: &mut ChannelState) {
+        if state.make_room_for_handles() {
+            return;
+        }
+        self.end_recording(state);
+        if let Some(recorder) = &self.recorder.0 {
+            recorder.tell_of_too_many_handles();
+        }
+    }
+
+    /// Ends a call that has left no entry and replied so, and returns its reply. A call for which
+    /// the journal had no room wasn't made: the recording of all channels ends at it, and it is
+    /// made now.
+    #[cold]
+    pub(super) fn end_unrecorded(
+        &self,
+        state: &mut ChannelState,
+        permit: Option<Permit<'_>>,
+        caller: Caller,
+        mut reply: Reply,
+        call: impl Fn(&mut CoreChannel, Caller) -> Reply,
+    ) -> Reply {
+        let called_at = state.remove_location();
+        if reply == Reply::JournalFull {
+            if !self.goes_on_past_limit(state, (caller, called_at)) {
+                self.end_recording(state);
+            }
+            reply = call(&mut state.core, caller);
+            if reply.leaves_entry() {
+                return reply;
+            }
+            state.remove_location();
+        }
+        if let Some(permit) = permit {
+            permit.would_wait();
+        }
+        reply.expect_made()
+    }
+
+    /// Whether the last calls of this channel are kept from now on, since the journal has no room
+    /// for all. Else the recording of all channels ends here.
+    fn goes_on_past_limit(
+        &self,
+        state: &mut ChannelState,
+        (caller, called_at): (Caller, CallSite),
+    ) -> bool {
+        let (Some(recorder), true) = (&self.recorder.0, state.is_recorded) else {
+            return false;
+        };
+        if recorder.may_go_on() && state.keep_last(recorder.times).is_ok() {
+            recorder.go_on();
+            if let Some(last) = &mut state.last_calls {
+                last.add(called_at, caller.actor, caller.clock + 1);
+            }
+            return true;
+        }
+        recorder.end_at(caller.clock);
+        false
+    }
+}

@@ -1,0 +1,381 @@
+//! A channel without its values, as its recorder shares it.
+
+use super::CoreChannel;
+use super::last_caller::LastCaller;
+use super::last_calls::LastCalls;
+use super::last_drops::DropStacks;
+use super::locations::{CallSite, Locations};
+use super::receivers::Receivers;
+use crate::channels::handle::Kind;
+use crate::channels::queue::Queue;
+use crate::channels::wait::{DroppedWait, Look, Pending, Wait, WaitFor};
+use crate::channels::wakers::WakerQueue;
+use crate::core::large_pages::without_giving_back;
+use crate::run::clock::Times;
+use crate::run::names::Maker;
+use std::collections::{BTreeMap, VecDeque};
+use std::mem;
+use std::task::Waker;
+
+/// How many calls that were dropped while they waited a channel keeps.
+const MOST_DROPPED_WAITS: usize = 16;
+
+/// What the lock of a channel guards: the core's channel and the futures that wait for it.
+pub(crate) struct ChannelState {
+    pub(crate) core: CoreChannel,
+    pub(super) is_recorded: bool,
+    // Whether all calls are recorded, and not the last ones alone.
+    pub(super) keeps_all: bool,
+    // If the last ones alone are, what is known of them.
+    pub(super) last_calls: Option<Box<LastCalls>>,
+    // How many values were passed to the core, which is the number of the next one.
+    pub(super) value_count: u64,
+    // How many of these were not sent, since there was no receiver.
+    pub(super) unsent_count: u64,
+    // How many values the channel was opened with.
+    opened_with: u64,
+    pub(crate) made_at: CallSite,
+    // Which actors have made the calls that are stored: a bit for each number.
+    pub(super) actors: u64,
+    // The receivers that are alive.
+    pub(crate) receivers: Receivers,
+    // Who has sent last, and where.
+    pub(crate) last_send: LastCaller,
+    waiting_for_value: WakerQueue,
+    waiting_for_no_receiver: WakerQueue,
+    // The calls that wait. A call stays here from its first poll to its end, also while it is woken
+    // and not yet polled again.
+    pub(crate) waits: Queue<Wait>,
+    // Where the last sender and the last receiver were dropped.
+    pub(crate) last_drops: DropStacks,
+    // The last calls that waited and were dropped.
+    pub(crate) dropped_waits: VecDeque<DroppedWait>,
+    // Of a watch, the looks at its value by their numbers. One that has ended stays until the next
+    // look with its number.
+    pub(super) looks: Vec<Look>,
+    pub(crate) name: Option<String>,
+    // The names of senders and receivers by their numbers: of those that the journal names, and of
+    // the others that are alive.
+    pub(crate) handle_names: BTreeMap<u64, String>,
+    // The texts of values by their numbers.
+    pub(crate) texts: BTreeMap<u64, String>,
+    pub(crate) locations: Locations,
+    // Who has made the channel, if it has a recorder.
+    pub(crate) made_by: Option<Maker>,
+    // The entries of calls that wait and whose words don't say so: how many entries are before
+    // each.
+    pub(crate) waited: Vec<u64>,
+    // The drops that were made by the drop of a named future, in the same way.
+    pub(crate) cancelled: Vec<u64>,
+}
+
+impl ChannelState {
+    /// Wraps a channel of the core that was opened with this many values.
+    pub(crate) fn new(core: CoreChannel, value_count: u64, made_at: CallSite) -> ChannelState {
+        ChannelState {
+            core,
+            is_recorded: true,
+            keeps_all: true,
+            last_calls: None,
+            value_count,
+            unsent_count: 0,
+            opened_with: value_count,
+            made_at,
+            actors: 0,
+            receivers: Receivers::default(),
+            last_send: LastCaller::default(),
+            waiting_for_value: WakerQueue::default(),
+            waiting_for_no_receiver: WakerQueue::default(),
+            waits: Queue::default(),
+            last_drops: DropStacks::default(),
+            dropped_waits: VecDeque::new(),
+            looks: Vec::new(),
+            name: None,
+            handle_names: BTreeMap::new(),
+            texts: BTreeMap::new(),
+            locations: Locations::default(),
+            made_by: None,
+            waited: Vec::new(),
+            cancelled: Vec::new(),
+        }
+    }
+
+    /// Returns the index of the entry that the call before has left, if all calls are recorded.
+    fn last_entry(&mut self) -> Option<u64> {
+        if self.keeps_all {
+            self.core.entries().checked_sub(1)
+        } else {
+            None
+        }
+    }
+
+    /// Notes that the call before has waited, if it is recorded.
+    pub(super) fn note_waited(&mut self) {
+        match &mut self.last_calls {
+            Some(last) => last.note_waited(),
+            None => {
+                let entry = self.last_entry();
+                self.waited.extend(entry);
+            }
+        }
+    }
+
+    /// Notes that the call before was a drop by the drop of a named future, if it is recorded.
+    pub(super) fn note_cancelled(&mut self) {
+        match &mut self.last_calls {
+            Some(last) => last.note_cancelled(),
+            None => {
+                let entry = self.last_entry();
+                self.cancelled.extend(entry);
+            }
+        }
+    }
+
+    /// Removes what was stored for a call that then wasn't recorded. Returns where it was made.
+    pub(super) fn remove_location(&mut self) -> CallSite {
+        if self.keeps_all {
+            self.locations.of_calls.pop()
+        } else {
+            self.last_calls.as_mut()?.remove_last()
+        }
+    }
+
+    /// Stores where a handle was made, if the journal names it. Handles are made in the order of
+    /// their numbers.
+    #[inline]
+    pub(crate) fn store_making(&mut self, made_at: CallSite) {
+        if self.keeps_all {
+            self.locations.of_handles.push(made_at);
+        } else if let Some(last) = &mut self.last_calls {
+            last.handles.add(made_at);
+        }
+    }
+
+    /// Names a handle.
+    pub(crate) fn name_handle(&mut self, number: u32, name: &str) {
+        self.handle_names.insert(number.into(), name.to_string());
+    }
+
+    /// Removes the name of a handle that is dropped, unless the journal names it.
+    #[inline]
+    pub(super) fn remove_name(&mut self, number: u32) {
+        if !self.handle_names.is_empty() && number as usize >= self.locations.of_handles.len() {
+            self.remove_name_now(number);
+        }
+    }
+
+    #[cold]
+    fn remove_name_now(&mut self, number: u32) {
+        let name = self.handle_names.remove(&number.into());
+        if let (Some(last), Some(name)) = (&mut self.last_calls, name) {
+            last.add_name(self.core.nth(number), name);
+        }
+    }
+
+    /// Returns the name of the handle with this number, or its kind and how many handles the
+    /// channel had created before it, which is its number in the journal.
+    pub(crate) fn handle_name(&self, kind: Kind, number: u32) -> String {
+        if let Some(name) = self.handle_names.get(&number.into()) {
+            return name.clone();
+        }
+        let nth = self.core.nth(number);
+        match kind {
+            Kind::Sender => format!("sender {nth}"),
+            Kind::WeakSender => format!("weak sender {nth}"),
+            Kind::Receiver => format!("receiver {nth}"),
+        }
+    }
+
+    /// Returns the names of those handles that the journal names.
+    pub(crate) fn names_in_journal(&self) -> BTreeMap<u64, String> {
+        let count = self.locations.of_handles.len() as u64;
+        let named = self.handle_names.range(..count);
+        named
+            .map(|(number, name)| (*number, name.clone()))
+            .collect()
+    }
+
+    /// Returns the name of the channel, or where it was made.
+    pub(crate) fn name_or_place(&self) -> String {
+        match (&self.name, self.made_at) {
+            (Some(name), _) => name.clone(),
+            (None, Some(at)) => format!("channel at {}:{}", at.file(), at.line()),
+            (None, None) => "channel".to_string(),
+        }
+    }
+
+    /// How many values the receiver with this number has yet to receive: of a watch, 1 if it hasn't
+    /// seen the value.
+    pub(crate) fn unread(&mut self, number: u32) -> u64 {
+        match self.core.capacity() {
+            Some(_) => self.core.unread(number),
+            None => u64::from(!self.core.seen(number)),
+        }
+    }
+
+    /// How many values the receiver that is most behind has yet to receive.
+    pub(crate) fn greatest_unread(&mut self) -> u64 {
+        let numbers: Vec<_> = self
+            .receivers
+            .iter()
+            .map(|receiver| receiver.number)
+            .collect();
+        let unread = numbers.into_iter().map(|number| self.unread(number));
+        unread.max().unwrap_or_default()
+    }
+
+    /// How many values were sent.
+    pub(crate) fn sent_count(&self) -> u64 {
+        self.value_count - self.opened_with - self.unsent_count
+    }
+
+    /// Returns what is known of the last calls, of what is known of all calls.
+    pub(super) fn noted(&self, chunk: usize, capacity: usize, times: Times) -> LastCalls {
+        let mut last = LastCalls::new(chunk, capacity, times);
+        last.add_all(&self.locations, self.actors);
+        last.add_indexes(&self.waited, &self.cancelled);
+        for (number, text) in &self.texts {
+            last.add_text(*number, text.clone(), true);
+        }
+        last
+    }
+
+    /// Ends recording: later calls leave no entry.
+    pub(crate) fn end_recording(&mut self) {
+        if mem::take(&mut self.is_recorded) {
+            self.core.end();
+            self.keeps_all = false;
+            self.last_calls = None;
+        }
+    }
+
+    /// Makes room for a further handle in a channel that keeps its last calls: if many of its
+    /// handles are dropped, they are taken out. Returns whether there is room.
+    pub(super) fn make_room_for_handles(&mut self) -> bool {
+        let Some(last) = &mut self.last_calls else {
+            return false;
+        };
+        if let Some(before) = self.core.renumber_last(None) {
+            last.renumber(&before);
+        }
+        !self.core.has_named_all()
+    }
+
+    /// Whether the next one of the last calls begins a chunk.
+    #[inline]
+    pub(super) fn has_full_chunk(&self) -> bool {
+        let last = self.last_calls.as_ref();
+        last.is_some_and(|last| last.has_full_chunk())
+    }
+
+    /// Begins a chunk of the last calls, and drops the one before the last. If many handles are
+    /// dropped, they are taken out.
+    #[cold]
+    #[inline(never)]
+    pub(super) fn turn_chunks(&mut self) {
+        let Some(last) = &mut self.last_calls else {
+            return;
+        };
+        last.turn();
+        // The lists that are forgotten are as long as those that are allocated then.
+        let before = without_giving_back(|| {
+            if self.core.forget_past() {
+                return None;
+            }
+            self.core.renumber_last(Some(last.chunk()))
+        });
+        if let Some(before) = before {
+            last.renumber(&before);
+        }
+    }
+
+    /// Whether the channel is recorded, and has created as many handles as a journal names.
+    #[inline]
+    pub(super) fn names_no_more_handles(&self) -> bool {
+        self.is_recorded && self.core.has_named_all()
+    }
+
+    /// Returns the numbers of actors that are needed: those of stored calls, of calls that wait,
+    /// and of looks. Each is a bit.
+    pub(crate) fn stored_actors(&self) -> u64 {
+        let waits = self.waits.items().map(|wait| wait.actor);
+        let dropped = self.dropped_waits.iter().map(|it| it.wait.actor);
+        let looks = self.looks.iter().map(|look| look.actor);
+        waits
+            .chain(dropped)
+            .chain(looks)
+            .fold(self.actors, |all, actor| all | actor.bit())
+            | self.last_calls.as_ref().map_or(0, |last| last.actors())
+    }
+
+    /// Whether all senders, weak senders and receivers are dropped.
+    pub(crate) fn is_dead(&mut self) -> bool {
+        let core = &mut self.core;
+        core.receivers() == 0 && core.senders() == 0 && core.weak_senders() == 0
+    }
+
+    /// Stores the text of a value, which was sent or wasn't, if its channel is recorded.
+    #[cold]
+    pub(super) fn store_text(&mut self, number: u64, text: String, is_sent: bool) {
+        if let Some(last) = &mut self.last_calls {
+            last.add_text(number, text, is_sent);
+        } else if self.is_recorded {
+            self.texts.insert(number, text);
+        }
+    }
+
+    /// Stores the text of the value that the channel was opened with, if no other was passed to the
+    /// core yet.
+    pub(crate) fn store_first_text(&mut self, text: String) {
+        if self.value_count == 1 {
+            self.store_text(0, text, true);
+        }
+    }
+
+    /// Notes that the last handle of this kind is dropped here, if all calls are recorded.
+    #[cold]
+    pub(super) fn note_last_drop(&mut self, kind: Kind) {
+        if self.is_recorded && self.keeps_all {
+            self.last_drops.note(kind);
+        }
+    }
+
+    /// Notes that a call is dropped while it waits, at this time of the recorder's clock.
+    /// How long it waited isn't noted in a replay, or in a run that is explored, since they hold
+    /// calls.
+    pub(crate) fn note_dropped(&mut self, pending: &Pending, until: Option<u64>, is_held: bool) {
+        let wait = pending.listed.and_then(|listed| self.waits.get(listed));
+        let (Some(wait), Some(until)) = (wait.copied(), until) else {
+            return;
+        };
+        if self.is_recorded && self.keeps_all {
+            if self.dropped_waits.len() == MOST_DROPPED_WAITS {
+                self.dropped_waits.pop_front();
+            }
+            self.dropped_waits.push_back(DroppedWait {
+                wait,
+                until,
+                waited: wait.began.filter(|_| !is_held).map(|it| it.elapsed()),
+            });
+        }
+    }
+
+    /// Ends the wait of a call, if it waits, and returns its waker, to be dropped while no lock is
+    /// held.
+    #[inline]
+    pub(crate) fn end_wait(&mut self, wait_for: WaitFor, pending: &mut Pending) -> Option<Waker> {
+        if let Some(listed) = pending.listed.take() {
+            self.waits.remove(listed);
+        }
+        self.queue(wait_for).remove(&mut pending.queued)
+    }
+
+    /// Returns the futures that wait for this.
+    #[inline]
+    pub(crate) fn queue(&mut self, wait_for: WaitFor) -> &mut WakerQueue {
+        match wait_for {
+            WaitFor::Value => &mut self.waiting_for_value,
+            WaitFor::NoReceiver => &mut self.waiting_for_no_receiver,
+        }
+    }
+}

@@ -1,0 +1,229 @@
+//! What a sender, a weak sender and a receiver are, of either kind of channel.
+
+use crate::channels::budget;
+use crate::channels::channel::{
+    Call, CallSite, CoreChannel, LockedChannel, NO_SLOT, RecordedChannel, Slot, TypedChannel,
+    call_site,
+};
+use crate::channels::lock::lock;
+use crate::channels::recorder::RecordedHandle;
+use crate::channels::turns::Permit;
+use crate::channels::wait::{ComingCall, Method, Pending, PolledCall, WaitFor};
+use crate::run::reply::Reply;
+pub(crate) use crate::run::word::Kind;
+use crate::run::word::Word;
+use std::future::poll_fn;
+use std::mem;
+use std::panic::{RefUnwindSafe, UnwindSafe};
+use std::sync::Arc;
+use std::task::{Context, Poll};
+
+/// A sender, weak sender or receiver: its channel, its number in that channel, and its kind. The
+/// public types wrap it, and make the call that drops it.
+pub(crate) struct ChannelHandle<T, S> {
+    pub(crate) channel: Arc<TypedChannel<T, S>>,
+    pub(crate) number: u32,
+    // Of a receiver, where it is in the channel's list of those that are alive.
+    pub(crate) slot: Slot,
+    pub(crate) kind: Kind,
+}
+
+// A panic in user code leaves no channel half changed: none of that code runs while the channel is
+// locked. The value of a watch is what a closure that panics has left, as in tokio.
+impl<T, S> UnwindSafe for ChannelHandle<T, S> {}
+impl<T, S> RefUnwindSafe for ChannelHandle<T, S> {}
+
+impl<T, S> ChannelHandle<T, S> {
+    /// Returns the two handles that the core opens each channel with: sender 0 and receiver 1.
+    pub(crate) fn first_two(channel: TypedChannel<T, S>) -> (Self, Self) {
+        let sender = ChannelHandle {
+            channel: Arc::new(channel),
+            number: 0,
+            slot: NO_SLOT,
+            kind: Kind::Sender,
+        };
+        let receiver = sender.sibling(Kind::Receiver, 1, Slot::FIRST);
+        (sender, receiver)
+    }
+
+    /// Returns the handle of the same channel that has this kind and this number.
+    pub(crate) fn sibling(&self, kind: Kind, number: u32, slot: Slot) -> Self {
+        ChannelHandle {
+            channel: self.channel.clone(),
+            number,
+            slot,
+            kind,
+        }
+    }
+
+    /// Creates a handle of the same channel, by this call.
+    #[track_caller]
+    #[inline]
+    pub(crate) fn create(&self, kind: Kind, word: Word, call: Call) -> Self {
+        let (reply, slot) = self.lock(word, call_site()).create(kind, call);
+        self.sibling(kind, reply.new_handle(), slot)
+    }
+
+    pub(crate) fn same_channel(&self, other: &Self) -> bool {
+        Arc::ptr_eq(&self.channel, &other.channel)
+    }
+
+    pub(crate) fn recorded(&self) -> &RecordedChannel {
+        &self.channel.recorded
+    }
+
+    /// Returns what a recorder knows of this handle.
+    pub(crate) fn of_recorder(&self) -> RecordedHandle<'_> {
+        RecordedHandle {
+            channel: self.recorded(),
+            number: self.number,
+            kind: self.kind,
+        }
+    }
+
+    /// Locks the channel for a call of this handle, which is made here in the source, once its turn
+    /// in a replay has come.
+    #[inline]
+    pub(crate) fn lock(&self, word: Word, called_at: CallSite) -> LockedChannel<'_> {
+        let channel = &self.channel.recorded;
+        let permit = channel.pass(self.number, word, called_at);
+        channel.lock(permit, self.number, called_at)
+    }
+
+    /// Waits for the turn of a call of this handle in a replay. It is called before a lock is
+    /// acquired.
+    #[inline]
+    pub(crate) fn pass(&self, word: Word, called_at: CallSite) -> Option<Permit<'_>> {
+        self.recorded().pass(self.number, word, called_at)
+    }
+
+    /// Locks the channel for a call that has its turn by this permit.
+    #[inline]
+    pub(crate) fn lock_with<'a>(
+        &'a self,
+        permit: Option<Permit<'a>>,
+        called_at: CallSite,
+    ) -> LockedChannel<'a> {
+        self.recorded().lock(permit, self.number, called_at)
+    }
+
+    /// Makes a call.
+    #[track_caller]
+    #[inline]
+    pub(crate) fn call(&self, word: Word, call: Call) -> Reply {
+        self.lock(word, call_site()).call(call)
+    }
+
+    /// Makes a call that only asks. If questions leave no entry, `read` replies instead.
+    #[track_caller]
+    #[inline]
+    pub(crate) fn ask(
+        &self,
+        word: Word,
+        call: Call,
+        read: impl FnOnce(&mut CoreChannel, u32) -> Reply,
+    ) -> Reply {
+        if self.recorded().is_quiet(self.number, word, call_site()) {
+            return read(&mut lock(&self.recorded().state).core, self.number);
+        }
+        self.call(word, call)
+    }
+
+    /// Makes a call that asks for a count. If questions leave no entry, `read` counts instead.
+    #[track_caller]
+    pub(crate) fn ask_count(
+        &self,
+        word: Word,
+        call: Call,
+        read: impl FnOnce(&mut CoreChannel, u32) -> u64,
+    ) -> usize {
+        let reply = self.ask(word, call, |core, number| Reply::Count(read(core, number)));
+        reply.count()
+    }
+
+    /// Reads a count from the core, which leaves no entry.
+    pub(crate) fn count(&self, count: impl FnOnce(&mut CoreChannel) -> u64) -> usize {
+        count(&mut lock(&self.recorded().state).core) as usize
+    }
+
+    /// Makes the call that drops this handle, and wakes those who wait for it. Drops are called by
+    /// the compiler, so it has no location in the source.
+    pub(crate) fn drop_by(&self, call: Call) {
+        let mut channel = self.lock(Word::Drop, None);
+        let (wakers, _event) = channel.drop_handle(self.kind, self.slot, call);
+        channel.unlock();
+        wakers.wake();
+    }
+
+    /// A call that waits, with its state since it was polled before.
+    fn waiting(
+        &self,
+        wait_for: WaitFor,
+        word: Word,
+        method: Method,
+        pending: Pending,
+    ) -> PolledCall<'_> {
+        PolledCall {
+            channel: self.recorded(),
+            handle: self.number,
+            wait_for,
+            word,
+            method,
+            pending,
+        }
+    }
+
+    /// Makes a call that waits: attempts it until it completes.
+    pub(crate) async fn wait<R>(
+        &self,
+        wait_for: WaitFor,
+        word: Word,
+        method: Method,
+        attempt: impl Fn(&mut LockedChannel<'_>) -> Poll<R>,
+    ) -> R {
+        let mut waiting = self.waiting(wait_for, word, method, Pending::default());
+        poll_fn(|context| waiting.poll(context, &attempt)).await
+    }
+
+    /// Takes one of the budget of the task that is polled, once there is one.
+    pub(crate) async fn give_way(&self) {
+        poll_fn(|context| {
+            if self.recorded().gives_way(context) {
+                Poll::Pending
+            } else {
+                budget::take_one(context);
+                Poll::Ready(())
+            }
+        })
+        .await
+    }
+
+    /// Waits for the turn of a call of this handle in a replay, where it may be pending until then.
+    pub(crate) async fn turn(&self, word: Word, called_at: CallSite) -> Option<Permit<'_>> {
+        let mut coming = ComingCall {
+            channel: self.recorded(),
+            handle: self.number,
+            word,
+            called_at,
+            ticket: None,
+        };
+        poll_fn(|context| coming.poll(context)).await
+    }
+
+    /// Attempts a call that waits. Between attempts the caller holds its state, and ends the wait
+    /// if there is no further attempt.
+    pub(crate) fn poll_wait<R>(
+        &self,
+        wait_for: WaitFor,
+        word: Word,
+        method: Method,
+        pending: &mut Pending,
+        context: &Context<'_>,
+        attempt: impl Fn(&mut LockedChannel<'_>) -> Poll<R>,
+    ) -> Poll<R> {
+        let mut waiting = self.waiting(wait_for, word, method, mem::take(pending));
+        let polled = waiting.poll(context, attempt);
+        *pending = mem::take(&mut waiting.pending);
+        polled
+    }
+}

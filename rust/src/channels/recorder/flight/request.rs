@@ -1,0 +1,209 @@
+//! A dump that something calls for: what it is about, until a thread of its own writes it.
+
+use super::super::noted_panic::NotedPanic;
+use super::super::shared::Shared;
+use super::WriteDump;
+use super::dump::Dump;
+use crate::channels::channel::{ChannelState, KeptChannel};
+use crate::channels::events::values;
+use crate::channels::handle::Kind;
+use crate::core::large_pages::without_giving_back;
+use crate::core::source::rw_law::NoMemory;
+use crate::run::clock::{Moment, now, wall};
+use std::io;
+use std::panic::{self, AssertUnwindSafe};
+use std::path::PathBuf;
+use std::sync::atomic::Ordering;
+use std::sync::mpsc::{Sender, channel};
+use std::sync::{Arc, Mutex};
+use std::thread;
+
+/// What called for a journal of the last calls.
+#[derive(Clone, Debug)]
+pub(crate) struct Why {
+    pub(crate) trigger: &'static str,
+    pub(crate) reason: String,
+    /// In milliseconds since 1970.
+    pub(crate) at: Option<u64>,
+}
+
+/// A dump that is begun and has no thread yet.
+pub(crate) struct DumpRequest {
+    pub(crate) recorder: Begun,
+    pub(crate) folder: PathBuf,
+    pub(crate) keep: usize,
+    pub(crate) why: Why,
+    /// The last stamp that a call of it has, and when that was.
+    pub(crate) last: u64,
+    pub(crate) began: Option<Moment>,
+    /// The channel that it is about, with its calls.
+    pub(crate) own: Option<(Arc<Mutex<ChannelState>>, KeptChannel)>,
+    pub(crate) panic: Option<NotedPanic>,
+    told: Sender<io::Result<PathBuf>>,
+    write: WriteDump,
+}
+
+/// The recorder of a dump. Until this is dropped it begins no other one, and gives no numbers of
+/// actors away.
+pub(crate) struct Begun(pub(crate) Arc<Shared>);
+
+impl Begun {
+    fn new(recorder: &Arc<Shared>) -> Begun {
+        recorder.readers.fetch_add(1, Ordering::SeqCst);
+        Begun(recorder.clone())
+    }
+}
+
+impl Drop for Begun {
+    fn drop(&mut self) {
+        self.0.readers.fetch_sub(1, Ordering::SeqCst);
+        if let Some(flight) = &self.0.flight {
+            flight.dumping.end();
+        }
+    }
+}
+
+impl Shared {
+    /// Returns the dump that a lag calls for, of a channel whose lock is held. The receiver with
+    /// this number has lost so many values.
+    pub(crate) fn dump_on_lag(
+        self: &Arc<Shared>,
+        channel: &Arc<Mutex<ChannelState>>,
+        state: &mut ChannelState,
+        receiver: u32,
+        lost: u64,
+    ) -> Option<Box<DumpRequest>> {
+        let dumping = &self.flight.as_ref()?.dumping;
+        if !dumping.is_for_lag(lost) {
+            return None;
+        }
+        let receiver = state.handle_name(Kind::Receiver, receiver);
+        let (channel_name, lost) = (state.name_or_place(), values(lost));
+        let reason = format!("`{receiver}` lost {lost} of `{channel_name}`");
+        DumpRequest::about("lag", reason, self, (channel, state))
+    }
+
+    /// Returns the dump that the drop of the last sender calls for, of a channel whose lock is
+    /// held.
+    pub(crate) fn dump_on_close(
+        self: &Arc<Shared>,
+        channel: &Arc<Mutex<ChannelState>>,
+        state: &mut ChannelState,
+    ) -> Option<Box<DumpRequest>> {
+        let (dumping, name) = (&self.flight.as_ref()?.dumping, state.name.clone()?);
+        if !dumping.are(|settings| settings.closed.contains(&name)) {
+            return None;
+        }
+        let reason = format!("`{name}` was closed");
+        DumpRequest::about("close", reason, self, (channel, state))
+    }
+}
+
+impl DumpRequest {
+    /// Begins a dump, unless it is too soon.
+    fn new(
+        recorder: &Arc<Shared>,
+        trigger: &'static str,
+        reason: String,
+    ) -> io::Result<(DumpRequest, Dump)> {
+        let Some(flight) = &recorder.flight else {
+            return Err(io::Error::other("this recorder is no flight recorder"));
+        };
+        let (folder, keep) = flight.dumping.begin(trigger == "call", now())?;
+        let (told, ended) = channel();
+        let last = recorder.last();
+        let request = DumpRequest {
+            recorder: Begun::new(recorder),
+            folder,
+            keep,
+            why: Why {
+                trigger,
+                reason,
+                at: wall(),
+            },
+            last,
+            began: recorder.times.moment(last),
+            own: None,
+            panic: None,
+            told,
+            write: flight.write,
+        };
+        Ok((request, Dump(ended)))
+    }
+
+    /// Begins a dump that is about a channel, whose lock is held.
+    fn about(
+        trigger: &'static str,
+        reason: String,
+        recorder: &Arc<Shared>,
+        (channel, state): (&Arc<Mutex<ChannelState>>, &mut ChannelState),
+    ) -> Option<Box<DumpRequest>> {
+        let (mut request, _) = DumpRequest::new(recorder, trigger, reason).ok()?;
+        match state.kept(recorder.times) {
+            Ok(kept) => request.own = kept.map(|kept| (channel.clone(), kept)),
+            Err(NoMemory) => {
+                request.end(Err(io::Error::other("no memory for the journal")));
+                return None;
+            }
+        }
+        Some(Box::new(request))
+    }
+
+    /// Begins a dump that somebody asks for.
+    pub(crate) fn asked(recorder: &Arc<Shared>, reason: &str) -> Dump {
+        match DumpRequest::new(recorder, "call", reason.to_string()) {
+            Ok((request, dump)) => {
+                request.begin();
+                dump
+            }
+            Err(error) => {
+                let (told, ended) = channel();
+                let _ = told.send(Err(error));
+                Dump(ended)
+            }
+        }
+    }
+
+    /// Begins a dump that a panic calls for, unless it is too soon.
+    pub(crate) fn on_panic(recorder: &Arc<Shared>, panic: NotedPanic) -> Option<Dump> {
+        let (mut request, dump) = DumpRequest::new(recorder, "panic", panic.in_words()).ok()?;
+        request.panic = Some(panic);
+        request.begin();
+        Some(dump)
+    }
+
+    /// Writes the dump on a thread of its own. No lock of this crate is held.
+    pub(crate) fn begin(mut self) {
+        let (recorder, told) = (self.recorder.0.clone(), self.told.clone());
+        let named = thread::Builder::new().name("yovanelum dump".to_string());
+        let write = move || {
+            let written = panic::catch_unwind(AssertUnwindSafe(|| (self.write)(&mut self)));
+            self.end(written.unwrap_or_else(|_| Err(io::Error::other("it panicked"))));
+        };
+        let spawned = named.spawn(|| without_giving_back(write));
+        if let Err(error) = spawned {
+            let error = io::Error::new(error.kind(), format!("no thread for it: {error}"));
+            let _ = told.send(count(&recorder, Err(error)));
+        }
+    }
+
+    /// Counts the dump, and tells whoever waits for it.
+    fn end(self, written: io::Result<PathBuf>) {
+        let DumpRequest { recorder, told, .. } = self;
+        let written = count(&recorder.0, written);
+        drop(recorder);
+        let _ = told.send(written);
+    }
+}
+
+/// Counts a dump, and says why it isn't written.
+fn count(recorder: &Shared, written: io::Result<PathBuf>) -> io::Result<PathBuf> {
+    match (&recorder.flight, written) {
+        (Some(flight), Ok(path)) => {
+            flight.dumping.count_written();
+            Ok(path)
+        }
+        (Some(flight), Err(error)) => flight.dumping.fail(error),
+        (None, written) => written,
+    }
+}

@@ -1,0 +1,78 @@
+//! Who has made channels, and how many.
+
+use std::collections::{HashMap, HashSet};
+
+/// How many makers there are before those are forgotten whose channels have left the run.
+const MANY: usize = 256;
+
+/// A maker that has made one of the last channels isn't forgotten: that channel may be about to
+/// enter the run.
+const RECENT: u64 = 128;
+
+/// How many channels each caller has made, by the name of the caller.
+#[derive(Default)]
+pub(super) struct Makers {
+    made: u64,
+    counts: HashMap<Option<String>, Count>,
+}
+
+#[derive(Default)]
+struct Count {
+    count: u64,
+    // How many channels all had made when this one made its last.
+    last: u64,
+}
+
+impl Makers {
+    /// Counts a channel that this caller makes, and returns how many it has made before.
+    pub(super) fn count(&mut self, name: &Option<String>) -> u64 {
+        self.made += 1;
+        if !self.counts.contains_key(name) {
+            self.counts.insert(name.clone(), Count::default());
+        }
+        let Some(maker) = self.counts.get_mut(name) else {
+            return 0;
+        };
+        maker.last = self.made;
+        maker.count += 1;
+        maker.count - 1
+    }
+
+    /// Whether any channel was made.
+    pub(super) fn have_made(&self) -> bool {
+        self.made > 0
+    }
+
+    /// Whether there are so many makers that most of them have no channel in the run.
+    pub(super) fn are_many(&self) -> bool {
+        self.counts.len() >= MANY
+    }
+
+    /// Forgets the makers that aren't among these, whose channels are in the run.
+    pub(super) fn forget_others(&mut self, in_run: &HashSet<Option<String>>) {
+        let recent = self.made.saturating_sub(RECENT);
+        self.counts
+            .retain(|name, maker| maker.last > recent || in_run.contains(name));
+    }
+}
+
+#[cfg(test)]
+mod tests {
+    use super::*;
+    use crate::run::journal::tests::runs;
+
+    #[test]
+    fn a_maker_with_a_channel_in_the_run_goes_on_counting_and_others_are_forgotten() {
+        let mut makers = Makers::default();
+        let stays = Some("stays".to_string());
+        assert_eq!((makers.count(&stays), makers.count(&stays)), (0, 1));
+        for request in 0..100 * runs() {
+            assert_eq!(makers.count(&Some(format!("request {request}"))), 0);
+            if makers.are_many() {
+                makers.forget_others(&[stays.clone()].into());
+            }
+            assert!(makers.counts.len() <= MANY);
+        }
+        assert_eq!(makers.count(&stays), 2);
+    }
+}

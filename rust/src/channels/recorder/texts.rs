@@ -1,0 +1,130 @@
+//! The functions for the texts of values, and the closures that are called with events.
+//!
+//! A recorder holds them, and its channels know them weakly. A function may hold a sender or a
+//! receiver. If the channel held it, the channel would hold itself, and stay open forever.
+
+use crate::channels::cut::start_of;
+use crate::channels::events::Hooks;
+use crate::channels::lock::lock;
+use crate::channels::turns::{TestEnd, Turns};
+use std::any::Any;
+use std::collections::HashMap;
+use std::sync::atomic::{AtomicUsize, Ordering};
+use std::sync::{Arc, Mutex, Weak};
+
+/// How many bytes a text has at most, unless the recorder is told otherwise.
+const MOST_BYTES: usize = 4096;
+
+/// The functions that a recorder holds, until its last handle is dropped. Then its replay ends too,
+/// if it has one.
+pub(crate) struct Texts {
+    functions: Mutex<Functions>,
+    hooks: Hooks,
+    // How many bytes a text has at most. Each function has it too, so that it needs no handle of
+    // the recorder.
+    most_bytes: Arc<AtomicUsize>,
+    turns: Option<Arc<dyn Turns>>,
+}
+
+#[derive(Default)]
+struct Functions {
+    next: u64,
+    by_number: HashMap<u64, Arc<dyn Any + Send + Sync>>,
+}
+
+/// What a channel knows of the function for the texts of its values. If this is dropped, the
+/// recorder drops the function.
+pub struct TextOf<T> {
+    function: Weak<dyn Fn(&T) -> String + Send + Sync>,
+    held_by: Weak<Texts>,
+    number: u64,
+    most_bytes: Arc<AtomicUsize>,
+}
+
+impl Drop for Texts {
+    fn drop(&mut self) {
+        if let Some(turns) = &self.turns {
+            turns.conclude(TestEnd::Unknown);
+        }
+    }
+}
+
+impl Texts {
+    pub(super) fn new(turns: Option<Arc<dyn Turns>>) -> Texts {
+        Texts {
+            functions: Mutex::default(),
+            hooks: Hooks::new(),
+            most_bytes: Arc::new(AtomicUsize::new(MOST_BYTES)),
+            turns,
+        }
+    }
+
+    /// Returns the closures that are called with events.
+    pub(crate) fn hooks(&self) -> &Hooks {
+        &self.hooks
+    }
+
+    /// Cuts texts that have more bytes than this, from now on.
+    pub(super) fn cut_at(&self, bytes: usize) {
+        self.most_bytes.store(bytes, Ordering::Relaxed);
+    }
+
+    /// Holds a function.
+    pub(super) fn hold<T>(
+        self: &Arc<Texts>,
+        function: impl Fn(&T) -> String + Send + Sync + 'static,
+    ) -> TextOf<T> {
+        let function = Arc::new(function);
+        let mut functions = lock(&self.functions);
+        let number = functions.next;
+        functions.next += 1;
+        functions.by_number.insert(number, function.clone());
+        TextOf {
+            function: Arc::downgrade(&function) as _,
+            held_by: Arc::downgrade(self),
+            number,
+            most_bytes: self.most_bytes.clone(),
+        }
+    }
+}
+
+impl<T> TextOf<T> {
+    /// Returns the text of a value, if the recorder still holds the function.
+    pub(crate) fn text(&self, value: &T) -> Option<String> {
+        let text = self.function.upgrade().map(|function| function(value))?;
+        let most = self.most_bytes.load(Ordering::Relaxed);
+        Some(if text.len() > most {
+            cut(&text, most)
+        } else {
+            text
+        })
+    }
+}
+
+/// Returns the start of a text, and how long the whole is.
+#[cold]
+fn cut(text: &str, most: usize) -> String {
+    format!("{}… ({} bytes)", start_of(text, most), text.len())
+}
+
+impl<T> Drop for TextOf<T> {
+    fn drop(&mut self) {
+        let Some(texts) = self.held_by.upgrade() else {
+            return;
+        };
+        let function = lock(&texts.functions).by_number.remove(&self.number);
+        // This runs user code, so nothing is locked here.
+        drop(function);
+    }
+}
+
+#[cfg(test)]
+mod tests {
+    use super::*;
+
+    #[test]
+    fn a_text_that_is_cut_says_how_long_it_was() {
+        assert_eq!(cut("price: 101", 5), "price… (10 bytes)");
+        assert_eq!(cut("é🦀", 0), "… (6 bytes)");
+    }
+}

@@ -1,0 +1,400 @@
+//! What is on channels now: how far each receiver is, and who waits.
+
+mod json;
+mod table;
+
+use crate::channels::channel::{CallSite, ChannelState, LiveReceiver, all_channels};
+use crate::channels::handle::Kind;
+use crate::channels::lock::lock;
+use crate::channels::recorder::{Handle, Recorder};
+use crate::channels::wait::{Awaited, Wait};
+use std::panic::Location;
+use std::sync::{Arc, Mutex};
+use std::time::Duration;
+
+/// Channels as they are at one moment, recorded or not: how much was sent, and how far each
+/// receiver is.
+///
+/// It is what a health page or an exporter of metrics reads. With `Display` it is a table for a
+/// person, and [`to_json`](Snapshot::to_json) is for a program. [`snapshot`] is of all channels of
+/// the process, and [`Recorder::snapshot`] of those of a recorder.
+///
+/// Each channel is read under its own lock, so what is said of one channel is of one moment. Other
+/// channels may have changed meanwhile.
+///
+/// # Examples
+///
+/// The table of a channel with two receivers:
+///
+/// ```
+/// use yovanelum::{Recorder, broadcast};
+///
+/// let recorder = Recorder::new();
+/// let _entered = recorder.enter();
+/// let (prices, mut chart) = broadcast::channel(2);
+/// let audit = prices.subscribe();
+/// recorder.name(&prices, "prices").name(&chart, "chart").name(&audit, "audit");
+/// for price in [101, 102, 103] {
+///     prices.send(price).unwrap();
+/// }
+/// assert!(chart.try_recv().is_err());
+/// chart.try_recv().unwrap();
+///
+/// let table = recorder.snapshot().to_string();
+/// assert!(table.starts_with("prices: broadcast, capacity 2, sent 3, retained 2, senders 1, last sent by "));
+/// assert!(table.contains("\n  receiver  unread  lag  lost  created at"));
+/// assert!(table.contains("\n  chart          1    0     1  "));
+/// ```
+#[derive(Clone, Debug, PartialEq, Eq)]
+pub struct Snapshot {
+    channels: Vec<ChannelSnapshot>,
+}
+
+/// A channel as it is at one moment.
+///
+/// # Examples
+///
+/// The channel of a receiver:
+///
+/// ```
+/// use yovanelum::{ChannelSnapshot, broadcast};
+///
+/// let (prices, chart) = broadcast::channel(2);
+/// for price in [101, 102, 103] {
+///     prices.send(price).unwrap();
+/// }
+/// let channel = ChannelSnapshot::of(&chart);
+/// assert_eq!((channel.sent(), channel.retained(), channel.senders()), (3, 2, 1));
+/// let chart = &channel.receivers()[0];
+/// assert_eq!((chart.unread(), chart.lag(), chart.lost()), (3, 1, 0));
+/// ```
+#[derive(Clone, Debug, PartialEq, Eq)]
+pub struct ChannelSnapshot {
+    name: String,
+    made_at: CallSite,
+    capacity: Option<usize>,
+    sent: u64,
+    retained: u64,
+    senders: u64,
+    weak_senders: u64,
+    sender: Option<String>,
+    sent_at: CallSite,
+    receivers: Vec<ReceiverSnapshot>,
+}
+
+/// A receiver as it is at one moment.
+///
+/// # Examples
+///
+/// A receiver that waits:
+///
+/// ```
+/// use std::pin::pin;
+/// use std::task::{Context, Waker};
+/// use yovanelum::{ChannelSnapshot, broadcast};
+///
+/// let (prices, mut chart) = broadcast::channel::<u32>(2);
+/// let mut recv = pin!(chart.recv());
+/// assert!(recv.as_mut().poll(&mut Context::from_waker(Waker::noop())).is_pending());
+///
+/// let channel = ChannelSnapshot::of(&prices);
+/// assert_eq!(channel.receivers()[0].waits_in(), Some("recv"));
+/// ```
+#[derive(Clone, Debug, PartialEq, Eq)]
+pub struct ReceiverSnapshot {
+    name: String,
+    made_at: CallSite,
+    unread: u64,
+    lag: u64,
+    lost: u64,
+    received_at: CallSite,
+    received_call: Option<u64>,
+    waits: Option<Waits>,
+}
+
+/// The call in which a receiver waits.
+#[derive(Clone, Debug, PartialEq, Eq)]
+struct Waits {
+    call: &'static str,
+    called_at: CallSite,
+    since: Option<u64>,
+    waited: Option<Duration>,
+}
+
+/// Returns what is on all channels of the process now, in the order of their creation.
+///
+/// These are the channels of which a sender, weak sender or receiver is alive, whether a recorder
+/// records them or not.
+///
+/// # Examples
+///
+/// A gauge for each receiver of a service:
+///
+/// ```
+/// use yovanelum::{Recorder, broadcast};
+///
+/// let (prices, chart) = broadcast::channel(16);
+/// Recorder::off().name(&prices, "prices").name(&chart, "chart");
+/// prices.send(101).unwrap();
+///
+/// let mut lines = vec![];
+/// for channel in yovanelum::snapshot().channels() {
+///     for receiver in channel.receivers() {
+///         let labels = format!(r#"channel="{}",receiver="{}""#, channel.name(), receiver.name());
+///         lines.push(format!("unread{{{labels}}} {}", receiver.unread()));
+///     }
+/// }
+/// assert_eq!(lines, [r#"unread{channel="prices",receiver="chart"} 1"#]);
+/// ```
+pub fn snapshot() -> Snapshot {
+    Snapshot::of_all(all_channels(None))
+}
+
+impl Recorder {
+    /// Returns what is on the channels of this recorder now, in the order of their creation.
+    ///
+    /// These are the channels that belong to it and of which a sender, weak sender or receiver is
+    /// alive. No call is recorded for it.
+    ///
+    /// # Examples
+    ///
+    /// ```
+    /// use yovanelum::{Recorder, broadcast};
+    ///
+    /// let recorder = Recorder::new();
+    /// let _entered = recorder.enter();
+    /// let (prices, chart) = broadcast::channel(2);
+    /// recorder.name(&prices, "prices").name(&chart, "chart");
+    /// prices.send(101).unwrap();
+    /// let snapshot = recorder.snapshot();
+    /// assert_eq!(snapshot.channels()[0].name(), "prices");
+    /// assert_eq!(snapshot.channels()[0].receivers()[0].unread(), 1);
+    /// ```
+    pub fn snapshot(&self) -> Snapshot {
+        Snapshot::of_all(all_channels(Some(self.0.id)))
+    }
+}
+
+impl Snapshot {
+    fn of_all(channels: Vec<Arc<Mutex<ChannelState>>>) -> Snapshot {
+        let channels = channels.iter();
+        Snapshot {
+            channels: channels
+                .map(|channel| ChannelSnapshot::new(&mut lock(channel)))
+                .collect(),
+        }
+    }
+
+    /// Returns the channels, in the order of their creation.
+    pub fn channels(&self) -> &[ChannelSnapshot] {
+        &self.channels
+    }
+}
+
+impl ChannelSnapshot {
+    /// Returns what is on the channel of this sender, weak sender or receiver now.
+    ///
+    /// It is no method of senders and receivers, so it never has the name of one of tokio's. No
+    /// call is recorded for it.
+    pub fn of<H: Handle>(handle: &H) -> ChannelSnapshot {
+        ChannelSnapshot::new(&mut lock(&handle.recorded().channel.state))
+    }
+
+    fn new(state: &mut ChannelState) -> ChannelSnapshot {
+        let mut receivers: Vec<_> = state.receivers.iter().map(ReceiverSnapshot::new).collect();
+        // Not by the number, which may have been that of another one before.
+        receivers.sort_by_key(|(number, _)| state.core.nth(*number));
+        let retained = state.core.capacity().map_or(1, |_| state.core.queued());
+        let mut receivers: Vec<_> = receivers
+            .into_iter()
+            .map(|(number, receiver)| receiver.in_channel(number, state))
+            .collect();
+        ReceiverSnapshot::add_waits(&mut receivers, state);
+        ChannelSnapshot {
+            name: state.name_or_place(),
+            made_at: state.made_at,
+            capacity: state.core.capacity(),
+            sent: state.sent_count(),
+            retained,
+            senders: state.core.senders(),
+            weak_senders: state.core.weak_senders(),
+            sender: state.last_send.name().map(str::to_string),
+            sent_at: state.last_send.called_at(),
+            receivers: receivers
+                .into_iter()
+                .map(|(_, receiver)| receiver)
+                .collect(),
+        }
+    }
+
+    /// Returns the name of the channel, or `channel at src/main.rs:9` with the place of its
+    /// creation if it has none.
+    pub fn name(&self) -> &str {
+        &self.name
+    }
+
+    /// Returns where the channel was created.
+    pub fn made_at(&self) -> Option<&'static Location<'static>> {
+        self.made_at
+    }
+
+    /// Returns the capacity that a broadcast channel was created with, and `None` for a watch
+    /// channel.
+    pub fn capacity(&self) -> Option<usize> {
+        self.capacity
+    }
+
+    /// Returns how many values were sent on the channel. The one that a watch channel was created
+    /// with is not among them.
+    pub fn sent(&self) -> u64 {
+        self.sent
+    }
+
+    /// Returns how many values the channel retains for some receiver, as
+    /// [`Sender::len`](crate::broadcast::Sender::len) does. A watch channel always retains its
+    /// value.
+    pub fn retained(&self) -> u64 {
+        self.retained
+    }
+
+    /// Returns how many senders are alive.
+    pub fn senders(&self) -> u64 {
+        self.senders
+    }
+
+    /// Returns how many weak senders are alive.
+    pub fn weak_senders(&self) -> u64 {
+        self.weak_senders
+    }
+
+    /// Returns the name of the thread, task or [`named`](crate::named) future that sent last, if
+    /// anything was sent.
+    pub fn sender(&self) -> Option<&str> {
+        self.sender.as_deref()
+    }
+
+    /// Returns where that send was called.
+    pub fn sent_at(&self) -> Option<&'static Location<'static>> {
+        self.sent_at
+    }
+
+    /// Returns the receivers that are alive, in the order of their creation.
+    pub fn receivers(&self) -> &[ReceiverSnapshot] {
+        &self.receivers
+    }
+}
+
+impl ReceiverSnapshot {
+    /// Returns what is noted of a receiver, with its number.
+    fn new(receiver: &LiveReceiver) -> (u32, ReceiverSnapshot) {
+        let stamp = receiver.received_stamp;
+        let snapshot = ReceiverSnapshot {
+            name: String::new(),
+            made_at: receiver.made_at,
+            unread: 0,
+            lag: 0,
+            lost: receiver.lost,
+            received_at: receiver.received_at,
+            received_call: Some(stamp).filter(|stamp| *stamp > 0),
+            waits: None,
+        };
+        (receiver.number, snapshot)
+    }
+
+    /// Adds what the channel knows of the receiver with this number.
+    fn in_channel(mut self, number: u32, state: &mut ChannelState) -> (u32, ReceiverSnapshot) {
+        self.name = state.handle_name(Kind::Receiver, number);
+        self.unread = state.unread(number);
+        let retained = state
+            .core
+            .capacity()
+            .map(|capacity| capacity.next_power_of_two() as u64);
+        self.lag = retained.map_or(0, |retained| self.unread.saturating_sub(retained));
+        (number, self)
+    }
+
+    /// Adds the calls that wait to their receivers, which are in the order of their creation.
+    fn add_waits(receivers: &mut [(u32, ReceiverSnapshot)], state: &ChannelState) {
+        for wait in state.waits.items() {
+            let nth = state.core.nth(wait.handle);
+            let index = receivers.binary_search_by_key(&nth, |(number, _)| state.core.nth(*number));
+            if let (Ok(index), Awaited::Value) = (index, wait.awaited) {
+                receivers[index].1.waits = Some(Waits::new(wait, state.made_by.is_some()));
+            }
+        }
+    }
+
+    /// Returns the name of the receiver, or `receiver 1` with its number in the channel if it has
+    /// none.
+    pub fn name(&self) -> &str {
+        &self.name
+    }
+
+    /// Returns where the receiver was created.
+    pub fn made_at(&self) -> Option<&'static Location<'static>> {
+        self.made_at
+    }
+
+    /// Returns how many values the receiver has yet to receive, those that were overwritten
+    /// included. Of a watch channel, it is 1 if the receiver hasn't seen the value.
+    pub fn unread(&self) -> u64 {
+        self.unread
+    }
+
+    /// Returns how many of these were overwritten: its next receive returns `Lagged` with this
+    /// number, if it isn't 0.
+    pub fn lag(&self) -> u64 {
+        self.lag
+    }
+
+    /// Returns how many values the receiver has lost since it was created: the sum of what its
+    /// `Lagged` said.
+    pub fn lost(&self) -> u64 {
+        self.lost
+    }
+
+    /// Returns where the call was made by which the receiver last received a value, if it has
+    /// received one.
+    ///
+    /// Of a watch channel, that is the last `borrow_and_update`, `changed` or `wait_for`.
+    pub fn received_at(&self) -> Option<&'static Location<'static>> {
+        self.received_at
+    }
+
+    /// Returns the stamp of that call in the journal of the channel's recorder, if it is recorded.
+    pub fn received_call(&self) -> Option<u64> {
+        self.received_call
+    }
+
+    /// Returns the method in which the receiver waits for a value, such as `recv`, if it waits.
+    pub fn waits_in(&self) -> Option<&'static str> {
+        self.waits.as_ref().map(|waits| waits.call)
+    }
+
+    /// Returns where that method was called.
+    pub fn waits_at(&self) -> Option<&'static Location<'static>> {
+        self.waits.as_ref()?.called_at
+    }
+
+    /// Returns the recorder's clock when the receiver began to wait: the entries with stamps up to
+    /// this were recorded before. It is `None` if the channel belongs to no recorder.
+    pub fn waits_since(&self) -> Option<u64> {
+        self.waits.as_ref()?.since
+    }
+
+    /// Returns for how long the receiver has waited. It is `None` on a platform without a clock.
+    pub fn waits_for(&self) -> Option<Duration> {
+        self.waits.as_ref()?.waited
+    }
+}
+
+impl Waits {
+    fn new(wait: &Wait, is_of_recorder: bool) -> Waits {
+        Waits {
+            call: wait.method.name,
+            called_at: wait.method.called_at,
+            since: is_of_recorder.then_some(wait.since),
+            waited: wait.began.map(|began| began.elapsed()),
+        }
+    }
+}

@@ -1,0 +1,108 @@
+//! A snapshot as a table that a person reads.
+
+use super::{ChannelSnapshot, ReceiverSnapshot, Snapshot, Waits};
+use crate::channels::channel::CallSite;
+use std::fmt;
+
+/// The heads of the columns. Those of numbers are on the right.
+const HEADS: [&str; 8] = [
+    "receiver",
+    "unread",
+    "lag",
+    "lost",
+    "created at",
+    "received at",
+    "call",
+    "waits",
+];
+
+/// The columns of numbers.
+const NUMBERS: [usize; 4] = [1, 2, 3, 6];
+
+type Row = [String; HEADS.len()];
+
+impl fmt::Display for Snapshot {
+    /// Formats the channels one below the other.
+    fn fmt(&self, f: &mut fmt::Formatter<'_>) -> fmt::Result {
+        self.channels
+            .iter()
+            .try_for_each(|channel| write!(f, "{channel}"))
+    }
+}
+
+impl fmt::Display for ChannelSnapshot {
+    /// Formats a line for the channel, and below it a table of its receivers.
+    fn fmt(&self, f: &mut fmt::Formatter<'_>) -> fmt::Result {
+        write!(f, "{}: ", self.name)?;
+        match self.capacity {
+            Some(capacity) => write!(f, "broadcast, capacity {capacity}")?,
+            None => write!(f, "watch")?,
+        }
+        let (sent, retained, senders) = (self.sent, self.retained, self.senders);
+        write!(f, ", sent {sent}, retained {retained}, senders {senders}")?;
+        if self.weak_senders > 0 {
+            write!(f, ", weak senders {}", self.weak_senders)?;
+        }
+        if let Some(sender) = &self.sender {
+            write!(f, ", last sent by {sender} at {}", place(self.sent_at))?;
+        }
+        writeln!(f)?;
+        if self.receivers.is_empty() {
+            return writeln!(f, "  no receivers");
+        }
+        let rows: Vec<_> = [HEADS.map(str::to_string)]
+            .into_iter()
+            .chain(self.receivers.iter().map(row))
+            .collect();
+        fmt_rows(&rows, f)
+    }
+}
+
+fn row(receiver: &ReceiverSnapshot) -> Row {
+    let call = receiver.received_call.map(|stamp| stamp.to_string());
+    [
+        receiver.name.clone(),
+        receiver.unread.to_string(),
+        receiver.lag.to_string(),
+        receiver.lost.to_string(),
+        place(receiver.made_at),
+        place(receiver.received_at),
+        call.unwrap_or_else(|| "-".to_string()),
+        receiver.waits.as_ref().map_or("-".to_string(), waits),
+    ]
+}
+
+fn waits(waits: &Waits) -> String {
+    let waited = waits
+        .waited
+        .map(|waited| format!(" for {:.1} s", waited.as_secs_f64()));
+    let since = waits.since.map(|since| format!(", since call {since}"));
+    format!(
+        "{} at {}{}{}",
+        waits.call,
+        place(waits.called_at),
+        waited.unwrap_or_default(),
+        since.unwrap_or_default()
+    )
+}
+
+fn place(at: CallSite) -> String {
+    at.map_or("-".to_string(), |at| format!("{}:{}", at.file(), at.line()))
+}
+
+fn fmt_rows(rows: &[Row], f: &mut fmt::Formatter<'_>) -> fmt::Result {
+    let width = |column: usize| rows.iter().map(|row| row[column].chars().count()).max();
+    let widths: [usize; HEADS.len()] = std::array::from_fn(|column| width(column).unwrap_or(0));
+    for row in rows {
+        let mut line = String::new();
+        for (column, (text, width)) in row.iter().zip(widths).enumerate() {
+            if NUMBERS.contains(&column) {
+                line.push_str(&format!("  {text:>width$}"))
+            } else {
+                line.push_str(&format!("  {text:<width$}"))
+            }
+        }
+        writeln!(f, "{}", line.trim_end())?;
+    }
+    Ok(())
+}

@@ -1,0 +1,364 @@
+//! The receiving half of a watch channel.
+
+use super::error::RecvError;
+use super::{Ref, WatchHandle, attempt_changed};
+use crate::channels::channel::{CallSite, CoreChannel, call_site};
+use crate::channels::handle::Kind;
+use crate::channels::recorder::{Handle, RecordedHandle, TextOf};
+use crate::channels::wait::{Method, Pending, WaitFor};
+use crate::run::word::Word;
+use std::fmt;
+use std::future::Future;
+use std::task::{Context, Poll};
+
+/// The receiving half of a watch channel.
+///
+/// It looks at the last value, and waits for values that it has not seen.
+/// [`channel`](super::channel), [`Sender::subscribe`](super::Sender::subscribe) and `clone` create
+/// receivers. As in tokio, a clone has seen what the original has, and from then on each of the two
+/// sees values for itself.
+///
+/// # Examples
+///
+/// ```
+/// use yovanelum::{block_on, watch};
+///
+/// let (config, mut rx) = watch::channel("log = info");
+/// config.send("log = debug").unwrap();
+/// // Both have yet to see the value.
+/// let mut other = rx.clone();
+/// block_on(async {
+///     rx.changed().await.unwrap();
+///     assert_eq!(*rx.borrow(), "log = debug");
+/// });
+/// assert!(!rx.has_changed().unwrap());
+/// assert!(other.borrow_and_update().has_changed());
+/// ```
+pub struct Receiver<T> {
+    pub(super) handle: WatchHandle<T>,
+}
+
+impl<T> Receiver<T> {
+    /// Returns a reference to the last value, without marking the value as seen.
+    ///
+    /// As in tokio, the reference holds a read lock: senders block until it is dropped, so keep it
+    /// for a short time. In a loop with [`changed`](Receiver::changed) use
+    /// [`borrow_and_update`](Receiver::borrow_and_update): with `borrow`, a value that was sent
+    /// between the two is looked at twice.
+    ///
+    /// # Examples
+    ///
+    /// ```
+    /// use yovanelum::watch;
+    ///
+    /// let (config, rx) = watch::channel("log = info");
+    /// config.send("log = debug").unwrap();
+    /// assert_eq!(*rx.borrow(), "log = debug");
+    /// assert!(rx.has_changed().unwrap());
+    /// ```
+    #[track_caller]
+    pub fn borrow(&self) -> Ref<'_, T> {
+        self.handle.borrow()
+    }
+
+    /// Returns a reference to the last value, and marks the value as seen.
+    ///
+    /// As in tokio, [`changed`](Receiver::changed) then waits for the next value. The reference
+    /// holds a read lock: senders block until it is dropped, so keep it for a short time.
+    ///
+    /// # Examples
+    ///
+    /// ```
+    /// use yovanelum::watch;
+    ///
+    /// let (config, mut rx) = watch::channel("log = info");
+    /// config.send("log = debug").unwrap();
+    /// assert_eq!(*rx.borrow_and_update(), "log = debug");
+    /// assert!(!rx.has_changed().unwrap());
+    /// ```
+    #[track_caller]
+    pub fn borrow_and_update(&mut self) -> Ref<'_, T> {
+        self.borrow_and_update_at(call_site())
+    }
+
+    /// [`borrow_and_update`](Receiver::borrow_and_update), which is called here in the source.
+    pub(crate) fn borrow_and_update_at(&mut self, called_at: CallSite) -> Ref<'_, T> {
+        let permit = self.handle.pass(Word::Update, called_at);
+        let method = Method {
+            name: "borrow_and_update",
+            called_at,
+        };
+        self.handle.borrow_by(permit, method, |channel| {
+            channel.call(CoreChannel::watch_update);
+            channel.note_receive(self.handle.slot);
+        })
+    }
+
+    /// Returns `true` if there is a value that this receiver has not seen.
+    ///
+    /// As in tokio, the value is not marked as seen, and values are not compared: a value that is
+    /// equal to the one before counts as a change.
+    ///
+    /// # Errors
+    ///
+    /// Returns [`RecvError`] if every sender has been dropped, also if the last value has not been
+    /// seen.
+    ///
+    /// # Examples
+    ///
+    /// ```
+    /// use yovanelum::watch;
+    ///
+    /// let (config, rx) = watch::channel("log = info");
+    /// assert!(!rx.has_changed().unwrap());
+    /// config.send("log = info").unwrap();
+    /// assert!(rx.has_changed().unwrap());
+    /// drop(config);
+    /// assert!(rx.has_changed().is_err());
+    /// assert_eq!(*rx.borrow(), "log = info");
+    /// ```
+    #[track_caller]
+    pub fn has_changed(&self) -> Result<bool, RecvError> {
+        let (word, called_at) = (Word::HasChanged, call_site());
+        let recorded = self.handle.recorded();
+        let permit = if recorded.is_quiet(self.handle.number, word, called_at) {
+            None
+        } else {
+            self.handle.pass(word, called_at)
+        };
+        let mut channel = self.handle.lock_with(permit, called_at);
+        if !self.handle.recorded().recorder.is_quiet() {
+            return channel.call(CoreChannel::watch_has_changed).has_changed();
+        }
+        match channel.core().senders() {
+            0 => Err(RecvError(())),
+            _ => Ok(self.handle.has_changed(&mut channel)),
+        }
+    }
+
+    /// Marks the last value as unseen by this receiver.
+    ///
+    /// As in tokio, [`changed`](Receiver::changed) then returns at once, whether a value was sent
+    /// or not. So a new receiver can handle the value that was there before it in the same loop as
+    /// later ones. Other receivers are not affected.
+    ///
+    /// # Examples
+    ///
+    /// ```
+    /// use yovanelum::{block_on, watch};
+    ///
+    /// let config = watch::Sender::new("log = info");
+    /// let mut rx = config.subscribe();
+    /// rx.mark_changed();
+    /// assert!(rx.has_changed().unwrap());
+    /// block_on(rx.changed()).unwrap();
+    /// assert!(!rx.has_changed().unwrap());
+    /// ```
+    #[track_caller]
+    pub fn mark_changed(&mut self) {
+        self.handle
+            .call(Word::MarkChanged, CoreChannel::watch_mark_changed);
+    }
+
+    /// Marks the last value as seen by this receiver.
+    ///
+    /// As in tokio, this is for a receiver that is not interested in that value. Other receivers
+    /// are not affected.
+    ///
+    /// # Examples
+    ///
+    /// ```
+    /// use yovanelum::watch;
+    ///
+    /// let (config, mut rx) = watch::channel("log = info");
+    /// config.send("log = debug").unwrap();
+    /// rx.mark_unchanged();
+    /// assert!(!rx.has_changed().unwrap());
+    /// config.send("log = warn").unwrap();
+    /// assert!(rx.has_changed().unwrap());
+    /// ```
+    #[track_caller]
+    pub fn mark_unchanged(&mut self) {
+        self.handle
+            .call(Word::MarkUnchanged, CoreChannel::watch_mark_unchanged);
+    }
+
+    /// Waits until there is a value that this receiver has not seen, and marks it as seen.
+    ///
+    /// As in tokio, it returns at once if the last value is unseen at the call. To look at the
+    /// value, call [`borrow_and_update`](Receiver::borrow_and_update).
+    ///
+    /// # Cancel safety
+    ///
+    /// As in tokio, no value has been marked as seen if the future is dropped before it completes,
+    /// for example by `select!`. It is then not recorded.
+    ///
+    /// # Errors
+    ///
+    /// Returns [`RecvError`] if every sender has been dropped and the last value has been seen.
+    ///
+    /// # Examples
+    ///
+    /// ```
+    /// use std::thread;
+    /// use yovanelum::{block_on, watch};
+    ///
+    /// let (price, mut rx) = watch::channel(101);
+    /// let exchange = thread::spawn(move || price.send(102).unwrap());
+    /// block_on(async {
+    ///     rx.changed().await.unwrap();
+    ///     assert_eq!(*rx.borrow_and_update(), 102);
+    ///     // The exchange ends, and drops the sender.
+    ///     assert!(rx.changed().await.is_err());
+    /// });
+    /// exchange.join().unwrap();
+    /// ```
+    #[track_caller]
+    pub fn changed(&mut self) -> impl Future<Output = Result<(), RecvError>> {
+        self.handle.changed(Method::called("changed"))
+    }
+
+    /// [`changed`](Receiver::changed) without a future. Between polls the caller holds the state of
+    /// the call.
+    pub(crate) fn poll_changed(
+        &mut self,
+        called_at: CallSite,
+        context: &Context<'_>,
+        pending: &mut Pending,
+    ) -> Poll<Result<(), RecvError>> {
+        let method = Method {
+            name: "changed",
+            called_at,
+        };
+        self.handle.poll_wait(
+            WaitFor::Value,
+            Word::Changed,
+            method,
+            pending,
+            context,
+            |channel| attempt_changed(channel, self.handle.slot),
+        )
+    }
+
+    /// Waits until the closure returns `true` for the value, and returns a reference to that value.
+    ///
+    /// The closure is called with the value at the call, and after that whenever there is a value
+    /// that this receiver has not seen. As in tokio, it is called with the value at the call also
+    /// if that has been seen, and values that are replaced quickly may be skipped. Each value with
+    /// which it was called is marked as seen. The reference holds a read lock: senders block until
+    /// it is dropped.
+    ///
+    /// Each call of the closure is recorded, as a
+    /// [`borrow_and_update`](Receiver::borrow_and_update), and so is each wait for a value, as a
+    /// [`changed`](Receiver::changed).
+    ///
+    /// # Cancel safety
+    ///
+    /// As in tokio, if the future is dropped before it completes, for example by `select!`, the
+    /// closure has returned `false` for the last value that was seen.
+    ///
+    /// # Errors
+    ///
+    /// Returns [`RecvError`] if every sender has been dropped and the closure has returned `false`
+    /// for the last value.
+    ///
+    /// # Panics
+    ///
+    /// Panics if the closure panics. As in tokio, the channel can still be used.
+    ///
+    /// The closure runs while the value is locked. Panics if the closure waits for that lock, by a
+    /// send on this channel or, while a sender waits, by a look at its value. Unlike tokio, where
+    /// this is a deadlock.
+    ///
+    /// # Examples
+    ///
+    /// ```
+    /// use std::thread;
+    /// use yovanelum::{block_on, watch};
+    ///
+    /// let (state, mut rx) = watch::channel("loading");
+    /// let worker = thread::spawn(move || state.send("ready").unwrap());
+    /// assert_eq!(*block_on(rx.wait_for(|state| *state == "ready")).unwrap(), "ready");
+    /// worker.join().unwrap();
+    /// assert!(block_on(rx.wait_for(|state| *state == "stopped")).is_err());
+    /// ```
+    #[track_caller]
+    pub fn wait_for(
+        &mut self,
+        mut f: impl FnMut(&T) -> bool,
+    ) -> impl Future<Output = Result<Ref<'_, T>, RecvError>> {
+        let method = Method::called("wait_for");
+        async move {
+            self.handle.give_way().await;
+            loop {
+                {
+                    let (word, called_at) = (Word::WaitFor, method.called_at);
+                    let permit = self.handle.turn(word, called_at).await;
+                    let value = self.handle.borrow_by(permit, method, |channel| {
+                        channel.call_that_waits(CoreChannel::watch_update);
+                        channel.note_receive(self.handle.slot);
+                    });
+                    if self.handle.channel.values.run_reading(|| f(&value)) {
+                        return Ok(value);
+                    }
+                }
+                self.handle.changed(method).await?;
+            }
+        }
+    }
+
+    /// Returns `true` if both receivers belong to the same channel, as in tokio. It is not
+    /// recorded.
+    ///
+    /// # Examples
+    ///
+    /// ```
+    /// use yovanelum::watch;
+    ///
+    /// let (_config, rx) = watch::channel("log = info");
+    /// let (_state, other) = watch::channel("starting");
+    /// assert!(rx.same_channel(&rx.clone()));
+    /// assert!(!rx.same_channel(&other));
+    /// ```
+    pub fn same_channel(&self, other: &Self) -> bool {
+        self.handle.same_channel(&other.handle)
+    }
+}
+
+impl<T> Clone for Receiver<T> {
+    /// Creates another receiver of the same channel, which has seen what this one has.
+    #[track_caller]
+    fn clone(&self) -> Receiver<T> {
+        Receiver {
+            handle: self.handle.create(
+                Kind::Receiver,
+                Word::CloneReceiver,
+                CoreChannel::watch_clone_receiver,
+            ),
+        }
+    }
+}
+
+impl<T> Drop for Receiver<T> {
+    fn drop(&mut self) {
+        self.handle.drop_by(CoreChannel::watch_drop);
+    }
+}
+
+impl<T: fmt::Debug> fmt::Debug for Receiver<T> {
+    fn fmt(&self, f: &mut fmt::Formatter<'_>) -> fmt::Result {
+        self.handle.channel.values.fmt_handle("Receiver", f)
+    }
+}
+
+impl<T> Handle for Receiver<T> {
+    type Value = T;
+
+    fn recorded(&self) -> RecordedHandle<'_> {
+        self.handle.of_recorder()
+    }
+
+    fn set_text_of(&self, text_of: TextOf<T>) {
+        self.handle.set_text_of(text_of);
+    }
+}

@@ -1,0 +1,193 @@
+//! What is written and printed at the end of a failing test: the journal, the names, the page with
+//! both inside, and the report.
+
+use super::files::{self, file_name};
+use super::replay_line;
+use super::replaying::REPLAYED;
+use super::saved::{RunSoFar, Saved};
+use super::test_run::TestRun;
+use crate::channels::lock::{lock, try_lock_for};
+use crate::channels::recorder::{PATIENCE, Shared};
+use crate::channels::turns::explored;
+use crate::run::journal::said;
+use crate::run::names::Names;
+use crate::run::report::{self, Report, at_call, page};
+use crate::schedule::explore;
+use std::fs;
+use std::io;
+use std::path::{Path, PathBuf};
+use std::sync::Mutex;
+
+/// Locked while the files of a test are written. A watchdog may write those of a test that fails at
+/// the same time.
+pub(super) static WRITING: Mutex<()> = Mutex::new(());
+
+/// The page, which comes with the sources of this crate. It isn't part of the program, which would
+/// get a third of a megabyte larger.
+const PAGE: &str = concat!(env!("CARGO_MANIFEST_DIR"), "/built/yovanelum.html");
+
+impl TestRun {
+    /// Writes the files of this test, and prints the report. What can't be written is said in one
+    /// line. `call` is where to look, if that isn't where the report says.
+    pub(super) fn report(&self, recorder: &Shared, has_failed: bool, call: Option<u64>) {
+        let _writing = lock(&WRITING);
+        let lines = self.lines_on(&recorder.run(), recorder, has_failed, call);
+        // In one call, since other tests print too.
+        eprint!("{lines}");
+    }
+
+    /// Says so if nothing was recorded in a test that passes. The harness shows it with
+    /// `--nocapture`.
+    pub(super) fn say_if_nothing(&self, recorder: &Shared) {
+        if recorder.has_nothing() {
+            // In one call, and so that the harness captures it.
+            eprint!("{}", self.nothing_in_words(recorder));
+        }
+    }
+
+    /// Writes the files of this test at once, since the process ends, and returns the report. What
+    /// this thread has locked is left out.
+    pub(super) fn write_before_process_ends(&self) -> Option<String> {
+        let recorder = self.recorder.upgrade()?;
+        let _writing = try_lock_for(&WRITING, PATIENCE);
+        Some(match recorder.readable_run(PATIENCE) {
+            Some(run) => self.lines_on(&run, &recorder, true, None),
+            None => format!(
+                "yovanelum: {} isn't written, since this thread has locked its recorder\n",
+                self.name
+            ),
+        })
+    }
+
+    /// Says how the replay of this test went, if it is one.
+    pub(super) fn end_replay_before_process_ends(&self) {
+        if let Some(recorder) = self.recorder.upgrade() {
+            recorder.end_replay(self, true);
+        }
+    }
+
+    /// Writes the files of this test, and returns the report on it.
+    fn lines_on(
+        &self,
+        run: &RunSoFar<'_>,
+        recorder: &Shared,
+        has_failed: bool,
+        call: Option<u64>,
+    ) -> String {
+        if recorder.has_nothing() {
+            return self.nothing_in_words(recorder);
+        }
+        let path = self.journal_path(recorder);
+        let Saved {
+            run,
+            journal,
+            mut names,
+        } = match run.saved(Some(self)) {
+            Ok(saved) => saved,
+            Err(error) => return not_written(&path, &error),
+        };
+        names.matching.has_failed = has_failed;
+        let report = match Report::on(&run, &names) {
+            Ok(report) => report,
+            Err(fault) => {
+                return format!("yovanelum: {}: {}\n", path.display(), said(fault));
+            }
+        };
+        names.account = Some(report.account().to_json());
+        let call = call.unwrap_or(report.call());
+        let (look, more) = match write((&path, self.number), &journal, &names, call) {
+            Ok((path, look)) => {
+                let lines = self.replay_line(&path, &names) + &compare_line(&path, recorder);
+                (Some(look), lines)
+            }
+            Err(error) => (None, not_written(&path, &error)),
+        };
+        let has_colours = report::has_colours(&io::stderr());
+        format!("{}{more}", report.text(look, has_colours))
+    }
+
+    /// Returns the line that says how to make the calls again. Nobody can make those of a lead.
+    fn replay_line(&self, path: &Path, names: &Names) -> String {
+        match names.window {
+            Some(_) => String::new(),
+            None => replay_line::of(path, self),
+        }
+    }
+
+    /// Says that nothing was recorded, unless others do: the end of a replay, and the session of
+    /// the runs that it explores.
+    fn nothing_in_words(&self, recorder: &Shared) -> String {
+        if recorder.turns.is_some() || explored().is_some() {
+            String::new()
+        } else {
+            format!("yovanelum: {}\n", recorder.nothing_line(&self.name))
+        }
+    }
+
+    /// Returns the file for the journal of this test, or of its replay, which doesn't replace the
+    /// one that it reads.
+    pub(super) fn journal_path(&self, recorder: &Shared) -> PathBuf {
+        let folder = files::folder();
+        let name = file_name(&self.name);
+        let gate = recorder.gate();
+        let of_gate = gate.as_ref().map(|gate| gate.path());
+        let Some(read) = of_gate.or(explore::followed()) else {
+            return folder.join(format!("{name}.journal"));
+        };
+        let path = folder.join(format!("{name}{REPLAYED}.journal"));
+        if read.with_extension("journal").file_name() == path.file_name() {
+            folder.join(format!("{name}{REPLAYED}{REPLAYED}.journal"))
+        } else {
+            path
+        }
+    }
+}
+
+/// Returns the line that says how to compare a run with the one whose calls it was to make again,
+/// if it diverged from that.
+fn compare_line(path: &Path, recorder: &Shared) -> String {
+    match recorder.gate().filter(|gate| gate.has_diverged()) {
+        Some(gate) => replay_line::comparing(path, gate.path()),
+        None => String::new(),
+    }
+}
+
+fn not_written(path: &Path, error: &io::Error) -> String {
+    format!("yovanelum: {} isn't written: {error}\n", path.display())
+}
+
+/// Writes the journal of the test with this number, and beside it the names and the page with both
+/// inside. Returns the journal's path, which is another one beside this one where a process that
+/// runs the same test, or another test of this name, has written this one, and where to look. If
+/// one can't be written, all are as before.
+pub(super) fn write(
+    (path, test): (&Path, u64),
+    journal: &str,
+    names: &Names,
+    call: u64,
+) -> io::Result<(PathBuf, String)> {
+    let names = names.to_json();
+    let page = page_of(path, journal, &names);
+    let path = files::replace(
+        path,
+        test,
+        &[
+            ("journal", Some(journal.as_bytes())),
+            ("names", Some(names.as_bytes())),
+            ("html", page.as_deref().ok()),
+        ],
+    )?;
+    let look = match page {
+        Ok(_) => page::address(&path.with_extension("html"), call),
+        Err(error) => format!("{}, {} (no page: {error})", path.display(), at_call(call)),
+    };
+    Ok((path, look))
+}
+
+/// Returns the page with the run inside.
+fn page_of(path: &Path, journal: &str, names: &str) -> Result<Vec<u8>, String> {
+    let name = path.file_name().unwrap_or_default().to_string_lossy();
+    let page = fs::read(PAGE).map_err(|error| format!("{PAGE}: {error}"))?;
+    page::with_run(&page, &name, journal.as_bytes(), names.as_bytes())
+        .ok_or_else(|| format!("{PAGE} has no element for a run"))
+}

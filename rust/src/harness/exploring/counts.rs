@@ -1,0 +1,252 @@
+//! What was tried: how many runs were made and what they were, in words and as JSON.
+
+use super::failing_order::FailingOrder;
+use super::process::FailureMark;
+use super::search::{Search, Task};
+use crate::harness::program;
+use crate::run::account::visible;
+use crate::run::names::push_string;
+use crate::schedule::explore::Schedule;
+use std::collections::{BTreeMap, HashSet};
+use std::fmt::Write;
+use std::hash::{DefaultHasher, Hash, Hasher};
+use std::time::Duration;
+
+/// What is said where the system doesn't tell who sleeps.
+pub(super) const BY_CLOCK: &str =
+    "threads were taken to sleep by a clock, so a seed or an order may not come back";
+
+/// The condition that a run is looked for.
+pub(super) struct AskedCondition {
+    pub(super) text: String,
+    /// Whether any run had something of its name.
+    pub(super) is_there: bool,
+    /// What is said if none had.
+    pub(super) unknown: Option<String>,
+}
+
+/// How many runs were made, and what they were.
+#[derive(Default)]
+pub(super) struct Counts {
+    pub(super) runs: u64,
+    by_strategy: BTreeMap<&'static str, u64>,
+    pub(super) orders: HashSet<u64>,
+    steps: u64,
+    restless: u64,
+    unnamed: u64,
+    too_long: u64,
+    /// How many recorded nothing, and the likely cause.
+    nothing: u64,
+    cause: Option<String>,
+    by_clock: bool,
+}
+
+impl Counts {
+    pub(super) fn add(&mut self, task: &Task, schedule: &Schedule) {
+        self.runs += 1;
+        *self.by_strategy.entry(task.order.strategy()).or_default() += 1;
+        let mut order = DefaultHasher::new();
+        for step in &schedule.steps {
+            (&step.who, format!("{:?}", step.what)).hash(&mut order);
+        }
+        self.orders.insert(order.finish());
+        self.steps += schedule.steps.len() as u64;
+        self.restless += u64::from(schedule.restless);
+        self.unnamed += u64::from(schedule.unnamed);
+        self.too_long += u64::from(schedule.was_too_long);
+        self.by_clock |= schedule.by_clock;
+        self.nothing += u64::from(schedule.nothing.is_some());
+        self.cause = self.cause.take().or_else(|| schedule.nothing.clone());
+    }
+
+    /// Whether no run has recorded anything.
+    pub(super) fn have_nothing(&self) -> bool {
+        self.runs > 0 && self.nothing == self.runs
+    }
+
+    /// Says that nothing was recorded, where that is so of all runs.
+    pub(super) fn nothing_in_words(&self, name: &str, failed: Option<&FailureMark>) -> String {
+        let cause = self.cause.as_deref().unwrap_or_default();
+        let said = match (failed, self.runs) {
+            (Some(_), 1) => "run 1 failed, but recorded nothing".to_string(),
+            (Some(_), runs) => {
+                format!("run {runs} failed, but nothing was recorded in any of {runs} runs")
+            }
+            (None, 1) => "the run recorded nothing".to_string(),
+            (None, runs) => format!("nothing was recorded in any of {runs} runs"),
+        };
+        format!("explored {name}: {said}, so no order was chosen: {cause}")
+    }
+
+    /// Says what was tried where all runs passed, and what wasn't.
+    pub(super) fn passed_in_words(
+        &self,
+        name: &str,
+        asked: Option<&AskedCondition>,
+        search: &Search,
+        took: Duration,
+    ) -> String {
+        let searched = match search.all_with_at_most() {
+            Some(0) => {
+                let all = all(search.passed[0], "without a switch");
+                match search.passed[1] {
+                    0 => all,
+                    some => format!(
+                        "{all}, and {some} of {} or more with one",
+                        some as usize + search.waiting(1)
+                    ),
+                }
+            }
+            Some(_) => all(search.passed.iter().sum(), "with at most one switch"),
+            None => match search.passed[0] {
+                0 => String::new(),
+                1 => "1 order without a switch passed, and there are more".to_string(),
+                some => format!("{some} orders without a switch passed, and there are more"),
+            },
+        };
+        let others = self
+            .by_strategy
+            .iter()
+            .filter(|(strategy, _)| **strategy != "search");
+        let others: Vec<_> = others
+            .map(|(strategy, count)| match *strategy {
+                "guided" | "random" => format!("{count} {strategy}"),
+                strategy => format!("{count} by {strategy}"),
+            })
+            .collect();
+        let mut parts = vec![searched, others.join(", ")];
+        parts.retain(|part| !part.is_empty());
+        let no_run = match asked {
+            None => String::new(),
+            Some(AskedCondition {
+                unknown: Some(unknown),
+                ..
+            }) => format!("{unknown}; "),
+            Some(asked) => format!("no run met `{}`: ", asked.text),
+        };
+        let runs = match self.runs {
+            1 => "1 run".to_string(),
+            runs => format!("all {runs} runs"),
+        };
+        let orders = visible::counted(self.orders.len() as u64, "order");
+        let seconds = took.as_secs_f64();
+        let mut text =
+            format!("explored {name}: {no_run}{runs} passed, in {orders} ({seconds:.1} s)");
+        if !parts.is_empty() {
+            let _ = write!(text, ": {}", parts.join("; "));
+        }
+        let _ = write!(
+            text,
+            "\n  {} of {} steps were chosen while a thread ran",
+            self.restless, self.steps
+        );
+        if self.unnamed > 0 {
+            let _ = write!(
+                text,
+                "; {} calls came from tasks or threads without a name",
+                self.unnamed
+            );
+        }
+        if self.too_long > 0 {
+            let _ = write!(
+                text,
+                "; {} runs were too long, and went on without an order",
+                self.too_long
+            );
+        }
+        if self.by_clock {
+            let _ = write!(text, "; {BY_CLOCK}");
+        }
+        if self.nothing > 0 {
+            let cause = self.cause.as_deref().unwrap_or_default();
+            let _ = write!(
+                text,
+                "\n  {} of {} runs recorded nothing: {cause}",
+                self.nothing, self.runs
+            );
+        }
+        // Under the patch they are.
+        let tasks = if program::is_patched() {
+            ""
+        } else {
+            "tasks without a name, and "
+        };
+        let _ = write!(
+            text,
+            "\n  not chosen: {tasks}what happens between two calls or polls: atomics, locks, other channels"
+        );
+        text
+    }
+
+    /// Returns all as one JSON object.
+    pub(super) fn json(
+        &self,
+        name: &str,
+        asked: Option<&AskedCondition>,
+        search: &Search,
+        took: Duration,
+        found: Option<&FailingOrder>,
+    ) -> String {
+        let mut json = "{\"test\": ".to_string();
+        push_string(&mut json, name);
+        let _ = write!(
+            json,
+            ", \"runs\": {}, \"orders\": {}",
+            self.runs,
+            self.orders.len()
+        );
+        let _ = write!(
+            json,
+            ", \"seconds\": {:.3}, \"strategies\": {{",
+            took.as_secs_f64()
+        );
+        for (index, (strategy, count)) in self.by_strategy.iter().enumerate() {
+            json.push_str(if index > 0 { ", " } else { "" });
+            push_string(&mut json, strategy);
+            let _ = write!(json, ": {count}");
+        }
+        let switches = search.all_with_at_most();
+        let switches = switches.map_or("null".to_string(), |switches| switches.to_string());
+        let _ = write!(json, "}}, \"allWithSwitches\": {switches}");
+        let _ = write!(
+            json,
+            ", \"steps\": {}, \"restless\": {}",
+            self.steps, self.restless
+        );
+        let _ = write!(
+            json,
+            ", \"unnamedCalls\": {}, \"tooLong\": {}, \"nothingRecorded\": {}",
+            self.unnamed, self.too_long, self.nothing
+        );
+        let (met, failure) = match found {
+            Some(found) if found.failure.is_met() => (Some(found), None),
+            found => (None, found),
+        };
+        if let Some(asked) = asked {
+            json.push_str(", \"for\": ");
+            push_string(&mut json, &asked.text);
+            let _ = write!(json, ", \"isThere\": {}, \"met\": ", asked.is_there);
+            push_found(&mut json, met);
+        }
+        json.push_str(", \"failure\": ");
+        push_found(&mut json, failure);
+        json.push_str("}\n");
+        json
+    }
+}
+
+fn push_found(json: &mut String, found: Option<&FailingOrder>) {
+    match found {
+        Some(found) => found.push_json(json),
+        None => json.push_str("null"),
+    }
+}
+
+/// Says that all orders of a kind passed, of which there are so many.
+pub(super) fn all(count: u64, which: &str) -> String {
+    match count {
+        1 => format!("the one order {which} passed"),
+        2 => format!("both orders {which} passed"),
+        count => format!("all {count} orders {which} passed"),
+    }
+}

@@ -1,0 +1,23 @@
+//! The highest layer: the recorder of a test, what a failing test and a dump write, and the program
+//! that it is all part of.
+
+mod ending;
+pub(crate) mod exploring;
+mod facade;
+mod files;
+pub(crate) mod flight;
+pub(crate) mod for_test;
+#[doc(hidden)]
+pub mod given;
+mod nothing;
+mod panic_hook;
+pub(crate) mod program;
+mod recorded;
+mod replay_line;
+mod replaying;
+mod saved;
+mod stacks;
+mod test_run;
+mod watchdog;
+mod window_names;
+mod windows;

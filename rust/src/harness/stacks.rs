@@ -1,0 +1,143 @@
+//! The places of stacks that are kept: the first frame of the program's own sources.
+//!
+//! What the standard library prints of a backtrace is read, since nothing else of it is offered.
+//! Each frame has a line with its function, and one with its place if the build has such lines.
+//! Where it has none, the first function that is no library's is all that is known.
+
+use crate::run::names::SourceLocation;
+use std::backtrace::Backtrace;
+use std::path::Path;
+
+/// What the functions begin with that aren't the program's own.
+const OTHERS: [&str; 6] = ["yovanelum", "tokio", "core", "std", "alloc", "test"];
+
+/// A frame of a stack.
+#[derive(Debug, PartialEq, Eq)]
+pub(super) struct Frame {
+    pub(super) function: String,
+    pub(super) location: Option<SourceLocation>,
+}
+
+/// Returns the first frame that is in the sources below this folder.
+pub(super) fn first_own(stack: &Backtrace, here: &Path) -> Option<Frame> {
+    first_of_text(&stack.to_string(), |file| here.join(file).is_file(), here)
+}
+
+/// Returns the first frame of a printed stack that is the program's own. `is_there` says whether a
+/// file is below the folder.
+fn first_of_text(text: &str, is_there: impl Fn(&str) -> bool, here: &Path) -> Option<Frame> {
+    let mut function = "";
+    let mut first = None;
+    for line in text.lines().map(str::trim_start) {
+        if let Some((_, name)) = line.split_once(": ") {
+            function = without_hash(name);
+            if first.is_none() && is_own(function) && function.contains("::") {
+                first = Some(function);
+            }
+        } else if let Some(place) = line.strip_prefix("at ") {
+            let location = location(place, here).filter(|at| is_there(&at.file));
+            if location.is_some() && is_own(function) {
+                return Some(Frame {
+                    function: function.to_string(),
+                    location,
+                });
+            }
+        }
+    }
+    Some(Frame {
+        function: first?.to_string(),
+        location: None,
+    })
+}
+
+/// Whether a function is the program's own: neither a library's, nor a method that a library's
+/// trait has for a type of a library.
+fn is_own(function: &str) -> bool {
+    let name = function.trim_start_matches(['<', '&']);
+    let library = name.split("::").next().unwrap_or_default();
+    !OTHERS.contains(&library)
+}
+
+/// Returns the name of a function without the number that the compiler adds.
+fn without_hash(function: &str) -> &str {
+    match function.rsplit_once("::h") {
+        Some((name, hash)) if hash.len() == 16 => name,
+        _ => function,
+    }
+}
+
+/// Returns a place as `./src/feed.rs:31:9`, if it is below this folder and not in a registry.
+fn location(place: &str, here: &Path) -> Option<SourceLocation> {
+    let (rest, column) = place.rsplit_once(':')?;
+    let (file, line) = rest.rsplit_once(':')?;
+    let path = Path::new(file);
+    let below = match path.strip_prefix(here) {
+        Ok(below) => below,
+        Err(_) if path.is_relative() => path.strip_prefix(".").unwrap_or(path),
+        Err(_) => return None,
+    };
+    let file = below.to_str()?;
+    (!file.starts_with("..")).then_some(())?;
+    Some(SourceLocation {
+        file: file.to_string(),
+        line: line.parse().ok()?,
+        column: column.parse().ok()?,
+    })
+}
+
+#[cfg(test)]
+mod tests {
+    use super::*;
+
+    const STACK: &str = "\
+   0: yovanelum::channels::channel::locked::LockedChannel::drop_handle
+             at /home/me/yovanelum/rust/src/channels/channel/locked.rs:300:9
+   1: core::ptr::drop_in_place<tokio::sync::broadcast::Sender<u32>>
+             at /rustc/59807616/library/core/src/ptr/mod.rs:805:1
+   2: shop::feed::publish::h0123456789abcdef
+             at ./src/feed.rs:31:1
+   3: shop::main
+             at /home/me/shop/src/main.rs:4:5
+";
+
+    fn first(text: &str, files: &[&str]) -> Option<Frame> {
+        first_of_text(
+            text,
+            |file| files.contains(&file),
+            Path::new("/home/me/shop"),
+        )
+    }
+
+    #[test]
+    fn the_first_frame_of_the_program_is_found() {
+        let frame = first(STACK, &["src/feed.rs"]).unwrap();
+        assert_eq!(frame.function, "shop::feed::publish");
+        let SourceLocation { file, line, column } = frame.location.unwrap();
+        assert_eq!((file.as_str(), line, column), ("src/feed.rs", 31, 1));
+    }
+
+    #[test]
+    fn without_lines_of_places_the_function_is_known() {
+        let bare = STACK.lines().filter(|line| !line.contains(" at "));
+        let bare: Vec<_> = bare.collect();
+        let wanted = Frame {
+            function: "shop::feed::publish".to_string(),
+            location: None,
+        };
+        assert_eq!(first(&bare.join("\n"), &[]), Some(wanted));
+        // A file that isn't there is another's, as those of the C library.
+        let frame = first(STACK, &["src/main.rs"]).unwrap();
+        assert_eq!(frame.function, "shop::main");
+    }
+
+    #[test]
+    fn the_standard_library_prints_it_so() {
+        let stack = Backtrace::force_capture().to_string();
+        // This crate's own functions are left out otherwise.
+        let stack = stack.replace("yovanelum::", "shop::");
+        if cfg!(all(target_os = "linux", not(miri))) {
+            let function = first(&stack, &[]).unwrap().function;
+            assert!(function.contains("it_so"), "{function}");
+        }
+    }
+}

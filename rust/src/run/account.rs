@@ -1,0 +1,348 @@
+//! The account of a run: what was found in it, in one order and in one choice of words.
+//!
+//! The report of a failing test, `yovanelum why` and the page show it, and may not differ. Facts
+//! are ordered by what ended the test: what those that failed were told last comes first. Its words
+//! say what was found, and add no judgement: a test may lose values on purpose, and fail for
+//! another reason. `docs/use/ACCOUNT.md` in the repository has each form.
+
+pub(crate) mod against;
+mod closings;
+mod columns;
+mod fact;
+mod failed;
+mod failure;
+mod finding;
+mod history;
+mod json;
+mod losses;
+mod naming;
+mod panicked;
+mod rest;
+mod saying;
+mod silence;
+#[cfg(test)]
+mod tests;
+mod times;
+mod traffic;
+mod unknown;
+pub(crate) mod visible;
+mod waits;
+mod watches;
+mod window;
+#[cfg(test)]
+mod windowed;
+
+pub(crate) use fact::{Fact, FactStep, Role};
+pub(crate) use failed::Failed;
+pub(crate) use rest::Rest;
+pub(crate) use saying::Saying;
+pub(crate) use waits::WaitAtEnd;
+
+use crate::run::journal::{Findings, FoundTraffic, Loss, Run, RunEntry, TextFault};
+use crate::run::names::{Names, SourceLocation};
+use failure::{Failure, FailureAt};
+use finding::{Finding, orders};
+use history::History;
+use naming::Naming;
+use times::WindowTimes;
+use traffic::Traffic;
+use window::WindowSaid;
+
+/// How many facts a report tells in full. The others are counted.
+pub(crate) const MOST_TOLD: usize = 3;
+
+/// How many facts have words. Those beyond are counted alone.
+const MOST_FACTS: usize = 100;
+
+/// What is known of a run, and how its text calls it.
+struct Context<'a> {
+    run: &'a Run,
+    names: &'a Names,
+    history: &'a History,
+    naming: &'a Naming<'a>,
+    times: WindowTimes<'a>,
+    failure: &'a Failure,
+    findings: &'a Findings,
+    traffic: &'a Traffic,
+}
+
+impl Context<'_> {
+    /// Returns the text of the panic that ended the test.
+    fn failure_text(&self) -> Option<&str> {
+        let panic = self.failure.end()?.panic?;
+        Some(&self.names.ending.panics[panic].text)
+    }
+
+    /// Returns who panicked.
+    fn who_panicked(&self, at: &FailureAt) -> String {
+        if let Some(actor) = at.actor {
+            return self.naming.actor(actor);
+        }
+        let panic = at.panic.map(|panic| &self.names.ending.panics[panic]);
+        let who = panic.and_then(|panic| panic.who.as_deref());
+        who.map_or("a thread".to_string(), visible::name)
+    }
+
+    /// Returns the place at which the calls with stamps up to this one had been made. It is behind
+    /// the lead of a window.
+    fn place_of(&self, stamp: u64) -> u64 {
+        self.run.place_of_stamp(stamp).max(self.history.lead)
+    }
+
+    /// Returns since when something is, as `call 3` or `the start`.
+    fn since(&self, place: u64) -> String {
+        match place {
+            0 => "the start".to_string(),
+            place if place == self.history.lead => window::BEFORE.to_string(),
+            place => visible::call(place),
+        }
+    }
+
+    /// Returns the call with this number as a step of a fact, with what was called and what there
+    /// is to say of it.
+    fn step(&self, place: u64, role: Role, what: String, said: String) -> FactStep {
+        let entry = self.run.entry(place);
+        let location = self.naming.call_source(entry.channel, place);
+        let dropped = self
+            .dropped_at(place, &entry)
+            .filter(|_| role == Role::Close);
+        let location = location.or(dropped.as_ref().and_then(|(location, _)| *location));
+        let said = match dropped {
+            Some((_, function)) if said.is_empty() => format!("in {function}"),
+            _ => said,
+        };
+        let time = self.times.at(entry.stamp);
+        let said = match time {
+            Some(time) if said.is_empty() => time.text(),
+            Some(time) => format!("{said}; {}", time.text()),
+            None => said,
+        };
+        FactStep {
+            place,
+            role,
+            actor: Some(entry.actor.into()),
+            location: location.cloned(),
+            time,
+            cells: [
+                visible::call(place),
+                what,
+                self.naming.actor(entry.actor.into()),
+                location.map_or(String::new(), visible::line_of),
+                said,
+            ],
+        }
+    }
+
+    /// Returns where the drop that led to this place was made, if it is that of the last sender or
+    /// receiver of its channel, with the function.
+    fn dropped_at(
+        &self,
+        place: u64,
+        entry: &RunEntry,
+    ) -> Option<(Option<&SourceLocation>, String)> {
+        let functions = self.names.dropped_in.get(&entry.channel.into())?;
+        let is_receiver = self
+            .history
+            .channel(entry.channel)
+            .is_receiver(entry.handle);
+        let later = self
+            .history
+            .channel(entry.channel)
+            .handles()
+            .any(|(_, handle)| {
+                let dropped = handle.dropped.is_some_and(|(dropped, _)| dropped > place);
+                handle.is_receiver == is_receiver && !handle.is_weak && dropped
+            });
+        let which = u64::from(is_receiver);
+        let function = functions.get(&which).filter(|_| !later)?;
+        let places = self.names.dropped_at.get(&entry.channel.into());
+        let place = places.and_then(|places| self.naming.source(*places.get(&which)?));
+        Some((place, visible::path(function)))
+    }
+
+    /// Returns what caused a fact before the window as its step: at the place where that begins.
+    fn step_before(&self, what: String) -> FactStep {
+        let nothing = String::new;
+        FactStep {
+            place: self.history.lead,
+            role: Role::Cause,
+            actor: None,
+            location: None,
+            time: None,
+            cells: [
+                window::BEFORE.to_string(),
+                what,
+                nothing(),
+                nothing(),
+                nothing(),
+            ],
+        }
+    }
+
+    /// Returns what ended the test as a step of a fact.
+    fn failure_step(&self, failure: FailureAt, what: String, said: String) -> FactStep {
+        let location = self.naming.source(failure.location.unwrap_or(usize::MAX));
+        let actor = failure.actor.map(|actor| self.naming.actor(actor));
+        FactStep {
+            place: failure.place,
+            role: Role::Failure,
+            actor: failure.actor,
+            location: location.cloned(),
+            time: None,
+            cells: [
+                failure.name.to_string(),
+                what,
+                actor.unwrap_or_default(),
+                location.map_or(String::new(), visible::line_of),
+                said,
+            ],
+        }
+    }
+
+    /// Returns the end of the run as a step of a fact.
+    fn end_step(&self, what: String, said: String) -> FactStep {
+        let nothing = String::new;
+        FactStep {
+            place: self.run.len(),
+            role: Role::End,
+            actor: None,
+            location: None,
+            time: None,
+            cells: ["the end".to_string(), what, nothing(), nothing(), said],
+        }
+    }
+}
+
+/// What was found in a run.
+#[derive(Debug)]
+pub(crate) struct Account {
+    /// How many calls and channels the run has.
+    calls: u64,
+    channels: u64,
+    /// Where the run begins in a window, what is said of that.
+    pub(crate) window: Option<WindowSaid>,
+    /// Why not all of the run is known.
+    pub(crate) unknown: Vec<String>,
+    /// How the test failed.
+    pub(crate) failed: Option<Failed>,
+    /// The facts in their order, as many as have words.
+    pub(crate) facts: Vec<Fact>,
+    /// The facts that aren't told in full, counted by kind.
+    pub(crate) rest: Rest,
+    /// What is said where no value was lost.
+    pub(crate) nothing: Option<String>,
+    pub(crate) waiting: Vec<WaitAtEnd>,
+    losses: Vec<Loss>,
+    // The place of what ended the test.
+    failure: Option<u64>,
+    /// The call that is worth looking at first, or 0 for the start.
+    pub(crate) look: u64,
+    /// The folder that the paths of sources are relative to.
+    pub(crate) root: Option<String>,
+}
+
+impl Account {
+    /// Makes the account of the run of this journal text.
+    ///
+    /// # Errors
+    ///
+    /// Returns the first fault of the text, if it is not a journal.
+    pub(crate) fn read(text: &[u8], names: &Names) -> Result<Account, TextFault> {
+        Account::on(&Run::read(text)?, names)
+    }
+
+    /// Makes the account of a run.
+    ///
+    /// # Errors
+    ///
+    /// Returns `NoMemory` if there is none for what is found.
+    pub(crate) fn on(run: &Run, names: &Names) -> Result<Account, TextFault> {
+        let findings = run.findings()?;
+        let found = traffic::told(run, &findings)?;
+        Ok(Account::of_found(run, names, &findings, found))
+    }
+
+    /// Makes the account of a run of which this was found, and the history is known.
+    fn with(
+        run: &Run,
+        names: &Names,
+        findings: &Findings,
+        history: &History,
+    ) -> Result<Account, TextFault> {
+        let traffic = Traffic::of(run, names, findings, traffic::told(run, findings)?);
+        Ok(Account::made(run, names, findings, history, &traffic))
+    }
+
+    /// Makes the account of a run of which this was found, where this came on its channels: at
+    /// least on those of which there is something to tell.
+    pub(crate) fn of_found(
+        run: &Run,
+        names: &Names,
+        findings: &Findings,
+        found: FoundTraffic,
+    ) -> Account {
+        let traffic = Traffic::of(run, names, findings, found);
+        Account::made(run, names, findings, &History::of(run, names), &traffic)
+    }
+
+    fn made(
+        run: &Run,
+        names: &Names,
+        findings: &Findings,
+        history: &History,
+        traffic: &Traffic,
+    ) -> Account {
+        let context = Context {
+            run,
+            names,
+            history,
+            naming: &Naming::new(names, history),
+            times: WindowTimes::of(names),
+            failure: &Failure::of(run, names, history),
+            findings,
+            traffic,
+        };
+        let found = Finding::all(&context);
+        let unknown = unknown::lines(&context);
+        let worded = found.iter().take(MOST_FACTS);
+        let facts: Vec<_> = worded.map(|finding| finding.fact(&context)).collect();
+        let failure = context.failure.end().map(|end| end.place);
+        Account {
+            calls: history.calls(),
+            channels: run.specs().len() as u64,
+            window: WindowSaid::of(names, run.len()),
+            nothing: nothing(&context, &unknown, &facts),
+            failed: Failed::of(&context),
+            unknown,
+            failure,
+            look: match facts.first() {
+                Some(fact) => fact.look,
+                None => failure.unwrap_or(run.len()).max(history.first_place()),
+            },
+            facts,
+            rest: Rest::of(&found),
+            waiting: waits::all(&context, &found[..Finding::told_in_full(&found)]),
+            losses: context.traffic.losses().iter().map(|it| it.loss).collect(),
+            root: names.ending.root.clone(),
+        }
+    }
+}
+
+/// Whether a fact says what failed, or that sends reached nobody.
+fn is_explained(facts: &[Fact]) -> bool {
+    let first = facts.first();
+    first.is_some_and(|fact| fact.order <= orders::UNREACHED)
+}
+
+/// Returns what is said where no value was lost. Where not all is known, that isn't said.
+fn nothing(context: &Context<'_>, unknown: &[String], facts: &[Fact]) -> Option<String> {
+    let calls = visible::counted(context.history.calls(), "call");
+    let channels = visible::counted(context.run.specs().len() as u64, "channel");
+    match (unknown, facts) {
+        ([], _) if context.traffic.losses().is_empty() && !is_explained(facts) => {
+            Some(format!("no value was lost in {calls} on {channels}"))
+        }
+        ([_, ..], []) => Some(format!("nothing was found in {calls} on {channels}")),
+        _ => None,
+    }
+}

@@ -1,0 +1,131 @@
+//! A fact of the account: its lines, and the steps of the run that it tells of.
+
+use super::columns::{self, Cells};
+use super::finding::orders;
+use super::times::CallTime;
+use crate::run::names::{Json, SourceLocation};
+
+/// What a step is to a fact.
+#[derive(Clone, Copy, Debug, PartialEq, Eq)]
+pub(crate) enum Role {
+    /// The send that overwrote the first value which was lost.
+    Cause,
+    /// The call that was told.
+    Told,
+    /// The drop of a receiver that was never told.
+    Dropped,
+    /// The panic that ended the test, or the error that it returned.
+    Failure,
+    /// The end of the run.
+    End,
+    /// The last look of a receiver of a watch.
+    Look,
+    /// The last change of a watch.
+    Change,
+    /// The drop of the last sender, or of the last receiver.
+    Close,
+    /// The panic of another thread or task.
+    Panic,
+    /// The send of a value that was returned, reached nobody, or came too early.
+    Sent,
+    /// Where a call began to wait, or a receiver was created too late.
+    Begin,
+}
+
+impl Role {
+    /// The word for it in JSON.
+    pub(crate) fn word(self) -> &'static str {
+        match self {
+            Role::Cause => "cause",
+            Role::Told => "told",
+            Role::Dropped => "dropped",
+            Role::Failure => "failure",
+            Role::End => "end",
+            Role::Look => "look",
+            Role::Change => "change",
+            Role::Close => "close",
+            Role::Panic => "panic",
+            Role::Sent => "sent",
+            Role::Begin => "begin",
+        }
+    }
+
+    /// What it is in a sentence with nothing but its place in the sources.
+    pub(crate) fn sentence(self) -> &'static str {
+        match self {
+            Role::Cause => "the send that overwrote the first of them",
+            Role::Told => "the call that was told",
+            Role::Dropped => "the drop of the receiver",
+            Role::Failure => "it had not been told by then",
+            Role::End => "the end of the run",
+            Role::Look => "its last look",
+            Role::Change => "the last change",
+            Role::Close => "the drop that closed it",
+            Role::Panic => "the panic",
+            Role::Sent => "the send",
+            Role::Begin => "where it began",
+        }
+    }
+}
+
+/// A step of the run that a fact tells of: a call, or what ended the test or the run.
+#[derive(Debug)]
+pub(crate) struct FactStep {
+    pub(crate) place: u64,
+    pub(crate) role: Role,
+    pub(crate) actor: Option<u64>,
+    /// Where it is in the sources.
+    pub(crate) location: Option<SourceLocation>,
+    /// When it was called.
+    pub(super) time: Option<CallTime>,
+    pub(super) cells: Cells,
+}
+
+impl FactStep {
+    /// Which step it is, as `call 3` or `the panic`.
+    pub(crate) fn name(&self) -> &str {
+        &self.cells[0]
+    }
+}
+
+/// What was found of a receiver or a channel, in words.
+#[derive(Debug)]
+pub(crate) struct Fact {
+    /// The number of the rule that orders it.
+    pub(crate) order: u8,
+    pub(crate) kind: &'static str,
+    /// What else is known of it, by keys.
+    pub(crate) members: Vec<(&'static str, Json)>,
+    pub(crate) head: String,
+    pub(crate) steps: Vec<FactStep>,
+    /// The line after the steps, if there is one.
+    pub(crate) last: Option<String>,
+    /// The steps whose places in the sources are worth looking at, the one that is worth most
+    /// first.
+    pub(crate) sights: Vec<usize>,
+    /// The call that is worth looking at.
+    pub(crate) look: u64,
+}
+
+impl Fact {
+    /// Whether it is usual in a test that passes: a receiver of a watch that looks and doesn't
+    /// mark, or that was never used, and a channel that closed.
+    pub(crate) fn is_usual(&self) -> bool {
+        self.order >= orders::UNMARKED && self.kind != "loss"
+    }
+
+    /// Returns its lines. That of a step comes after the first line and those of the steps before
+    /// it.
+    pub(crate) fn text(&self) -> Vec<String> {
+        let mut text = vec![self.head.clone()];
+        text.extend(columns::aligned(self.steps.iter().map(|step| &step.cells)));
+        text.extend(self.last.clone());
+        text
+    }
+
+    /// Returns the steps with a known place in the sources, the one that is worth most first.
+    pub(crate) fn sights(&self) -> impl Iterator<Item = (&FactStep, &SourceLocation)> {
+        let steps = self.sights.iter().map(|index| &self.steps[*index]);
+        steps.filter_map(|step| Some((step, step.location.as_ref()?)))
+    }
+}

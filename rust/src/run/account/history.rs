@@ -1,0 +1,348 @@
+//! Which handles of a run are receivers, and which actors used them. It passes over the entries
+//! once. What a window's lead has is none of what anybody did.
+
+use crate::run::journal::{Run, RunEntry};
+use crate::run::names::Names;
+use crate::run::reply::Reply;
+use crate::run::word::{CallSet, Kind, Word};
+
+/// A handle of a channel.
+pub(super) struct HandleHistory {
+    pub(super) is_receiver: bool,
+    pub(super) is_weak: bool,
+    /// The place at which it was created, or 0.
+    pub(super) made: u64,
+    /// The place at which it was dropped, and who dropped it.
+    pub(super) dropped: Option<(u64, u32)>,
+    /// The place of its last call that isn't its drop, or 0.
+    pub(super) last_use: u64,
+    /// The actor that received by it last.
+    pub(super) last_user: Option<u32>,
+    /// How many changes of a watch it learned of: by a look, by a mark, or since it was told.
+    pub(super) learned: u64,
+    // The number of the last change that it learned of, or that was there before it.
+    learned_of: u64,
+    /// Whether it asked for a new version of a watch.
+    pub(super) awaits: bool,
+    /// Whether it looked at the version of a watch with which the window begins, while that was the
+    /// current one.
+    pub(super) looked_first: bool,
+    /// Whether it marked that version then.
+    pub(super) marked_first: bool,
+}
+
+/// What happened on a channel.
+pub(super) struct ChannelHistory {
+    handles: Vec<HandleHistory>,
+    // How often the value was changed, or how many values were sent.
+    changes: u64,
+    /// The place of the last call that sent a value, or changed it.
+    pub(super) last_sent: u64,
+    // Whether the value of a watch was changed, behind the lead.
+    is_changed: bool,
+    /// The sends that reached nobody: how many, and the places of the first and the last.
+    pub(super) unreached: Option<Unreached>,
+}
+
+/// The sends that reached nobody.
+#[derive(Clone, Copy, Debug, PartialEq, Eq)]
+pub(super) struct Unreached {
+    pub(super) count: u64,
+    pub(super) first: u64,
+    pub(super) last: u64,
+}
+
+/// What an actor did.
+#[derive(Clone, Default)]
+struct ActorHistory {
+    // The receiver that it received by first, with its channel.
+    reads_with: Option<(u32, u32)>,
+    reads_with_several: bool,
+    // A bit for each channel on which it used a sender. A run has 64 channels at most.
+    sends_on: u64,
+    // The place of its last call that isn't a drop, or 0.
+    last_call: u64,
+    // The places of the calls that told it of a loss.
+    told: Vec<u64>,
+}
+
+/// What happened in a run.
+pub(super) struct History {
+    /// How many entries lead to the window.
+    pub(super) lead: u64,
+    channels: Vec<ChannelHistory>,
+    actors: Vec<ActorHistory>,
+    // For the entry of each place, how many entries of the same channel are before it.
+    indexes: Vec<u32>,
+}
+
+impl History {
+    /// Passes over the entries of a run. The names say which calls are those of `wait_for`.
+    pub(super) fn of(run: &Run, names: &Names) -> History {
+        let mut history = History {
+            lead: names.lead(),
+            channels: run.specs().iter().map(|_| ChannelHistory::new()).collect(),
+            actors: vec![],
+            indexes: Vec::with_capacity(run.len() as usize),
+        };
+        let mut counts = vec![0; run.specs().len()];
+        for (place, mut entry) in run.entries() {
+            let count = &mut counts[entry.channel as usize];
+            if entry.word == Word::Update && names.matching.is_waited(entry.channel, *count) {
+                entry.word = entry.word.marked();
+            }
+            history.indexes.push(*count);
+            *count += 1;
+            history.note(place, &entry);
+            if place == history.lead {
+                history.end_lead();
+            }
+        }
+        history
+    }
+
+    /// What the lead changes is no change of the run.
+    fn end_lead(&mut self) {
+        for channel in &mut self.channels {
+            for handle in &mut channel.handles {
+                handle.learned_of = channel.changes;
+            }
+        }
+    }
+
+    fn note(&mut self, place: u64, entry: &RunEntry) {
+        let channel = &mut self.channels[entry.channel as usize];
+        channel.note_made(place, entry);
+        if place <= self.lead {
+            return;
+        }
+        channel.note(place, entry);
+        let receives = channel.is_receive(entry);
+        let sends = channel.is_sender(entry.handle) && entry.word != Word::Drop;
+        let number = entry.actor as usize;
+        if self.actors.len() <= number {
+            self.actors.resize(number + 1, ActorHistory::default());
+        }
+        self.actors[number].note(place, entry, receives, sends);
+    }
+
+    pub(super) fn channel(&self, channel: u32) -> &ChannelHistory {
+        &self.channels[channel as usize]
+    }
+
+    /// How many calls were made.
+    pub(super) fn calls(&self) -> u64 {
+        self.indexes.len() as u64 - self.lead
+    }
+
+    /// The first place worth a look: 0, or of a window the first one behind its lead.
+    pub(super) fn first_place(&self) -> u64 {
+        match self.lead {
+            0 => 0,
+            lead => (lead + 1).min(self.indexes.len() as u64),
+        }
+    }
+
+    /// How many entries of the same channel are before the entry that led to this place.
+    pub(super) fn index_on_channel(&self, place: u64) -> usize {
+        self.indexes[place as usize - 1] as usize
+    }
+
+    /// How many entries the channel with the most has.
+    pub(super) fn most_entries(&self) -> u64 {
+        self.indexes
+            .iter()
+            .max()
+            .map_or(0, |most| u64::from(*most) + 1)
+    }
+
+    /// The place of the last call of an actor that isn't a drop, or 0.
+    pub(super) fn last_call(&self, actor: u64) -> u64 {
+        self.actor(actor).map_or(0, |actor| actor.last_call)
+    }
+
+    /// The place up to this one of the last call that returned `lagged` to an actor.
+    pub(super) fn last_told(&self, actor: u64, up_to: u64) -> Option<u64> {
+        let told = &self.actor(actor)?.told;
+        let count = told.partition_point(|place| *place <= up_to);
+        told[..count].last().copied()
+    }
+
+    fn actor(&self, actor: u64) -> Option<&ActorHistory> {
+        self.actors.get(usize::try_from(actor).ok()?)
+    }
+
+    /// Returns the actor that received by a receiver last, if it received by no other one and sent
+    /// nothing on that channel.
+    pub(super) fn reader(&self, channel: u32, receiver: u32) -> Option<u32> {
+        let user = self.channel(channel).handle(receiver)?.last_user?;
+        let actor = &self.actors[user as usize];
+        let is_sender = actor.sends_on >> channel & 1 == 1;
+        (!actor.reads_with_several && !is_sender).then_some(user)
+    }
+}
+
+impl ActorHistory {
+    fn note(&mut self, place: u64, entry: &RunEntry, receives: bool, sends: bool) {
+        if entry.word != Word::Drop {
+            self.last_call = place;
+        }
+        if matches!(entry.reply, Reply::Lagged(_)) {
+            self.told.push(place);
+        }
+        if receives {
+            let receiver = (entry.channel, entry.handle);
+            let first = *self.reads_with.get_or_insert(receiver);
+            self.reads_with_several |= first != receiver;
+        } else if sends {
+            self.sends_on |= 1 << entry.channel;
+        }
+    }
+}
+
+impl HandleHistory {
+    fn new(is_receiver: bool, made: u64, learned_of: u64) -> HandleHistory {
+        HandleHistory {
+            is_receiver,
+            is_weak: false,
+            made,
+            dropped: None,
+            last_use: 0,
+            last_user: None,
+            learned: 0,
+            learned_of,
+            awaits: false,
+            looked_first: false,
+            marked_first: false,
+        }
+    }
+
+    /// Notes that a receiver of a watch learned of the current change, if it did.
+    fn note_learned(&mut self, entry: &RunEntry, changes: u64) {
+        let has_learned = match entry.reply {
+            Reply::Value(_) | Reply::Done => entry.word != Word::MarkChanged,
+            Reply::Flag(flag) => entry.word == Word::HasChanged && flag != 0,
+            _ => false,
+        };
+        if has_learned && self.learned_of < changes {
+            self.learned_of = changes;
+            self.learned += 1;
+        }
+    }
+
+    /// Whether the handle was there at a place.
+    pub(super) fn is_alive_at(&self, place: u64) -> bool {
+        self.made <= place && self.dropped.is_none_or(|(dropped, _)| dropped > place)
+    }
+}
+
+impl ChannelHistory {
+    fn new() -> ChannelHistory {
+        ChannelHistory {
+            handles: vec![
+                HandleHistory::new(false, 0, 0),
+                HandleHistory::new(true, 0, 0),
+            ],
+            changes: 0,
+            last_sent: 0,
+            is_changed: false,
+            unreached: None,
+        }
+    }
+
+    /// Notes what is created, changed and dropped, also in a lead.
+    fn note_made(&mut self, place: u64, entry: &RunEntry) {
+        match entry.reply {
+            Reply::New(_) => {
+                let kind = entry.word.makes();
+                let is_receiver = kind == Some(Kind::Receiver);
+                // A clone has learned of what its original has.
+                let learned_of = match (entry.word, self.handle(entry.handle)) {
+                    (Word::CloneReceiver, Some(original)) => original.learned_of,
+                    _ => self.changes,
+                };
+                let mut handle = HandleHistory::new(is_receiver, place, learned_of);
+                handle.is_weak = kind == Some(Kind::WeakSender);
+                self.handles.push(handle);
+            }
+            Reply::Dropped => {
+                if let Some(handle) = self.handles.get_mut(entry.handle as usize) {
+                    handle.dropped = Some((place, entry.actor));
+                }
+            }
+            Reply::Sent(_) | Reply::Stored | Reply::Old(_) | Reply::Told(1) => {
+                self.changes += 1;
+                self.last_sent = place;
+            }
+            _ => {}
+        }
+    }
+
+    fn note(&mut self, place: u64, entry: &RunEntry) {
+        self.is_changed |= matches!(
+            entry.reply,
+            Reply::Sent(_) | Reply::Stored | Reply::Old(_) | Reply::Told(1)
+        );
+        self.note_unreached(place, entry);
+        let is_first = !self.is_changed;
+        let is_receive = self.is_receive(entry);
+        let changes = self.changes;
+        if let Some(handle) = self.handles.get_mut(entry.handle as usize) {
+            let is_drop = entry.word == Word::Drop;
+            handle.last_use = if is_drop { handle.last_use } else { place };
+            handle.note_learned(entry, changes);
+            if is_receive {
+                handle.last_user = Some(entry.actor);
+                handle.awaits |= entry.word.is(CallSet::AWAITS);
+            }
+            if is_first {
+                handle.looked_first |= matches!(entry.reply, Reply::Value(_));
+                handle.marked_first |= entry.word.is(CallSet::MARKS)
+                    && matches!(entry.reply, Reply::Value(_) | Reply::Done);
+            }
+        }
+    }
+
+    /// Notes a send that reached nobody.
+    fn note_unreached(&mut self, place: u64, entry: &RunEntry) {
+        if !matches!(entry.reply, Reply::NoReceivers(_)) {
+            return;
+        }
+        let unreached = self.unreached.get_or_insert(Unreached {
+            count: 0,
+            first: place,
+            last: place,
+        });
+        unreached.count += 1;
+        unreached.last = place;
+    }
+
+    /// Returns the handles, by their numbers.
+    pub(super) fn handles(&self) -> impl Iterator<Item = (u32, &HandleHistory)> {
+        (0..).zip(&self.handles)
+    }
+
+    /// Returns a handle that was created.
+    pub(super) fn handle(&self, handle: u32) -> Option<&HandleHistory> {
+        self.handles.get(handle as usize)
+    }
+
+    /// Whether an entry is a receive. One that was refused, as that by a handle which is gone, is
+    /// none.
+    fn is_receive(&self, entry: &RunEntry) -> bool {
+        let handle = self.handle(entry.handle);
+        let is_refused = matches!(entry.reply, Reply::Gone | Reply::Unknown | Reply::WrongKind);
+        handle.is_some_and(|handle| handle.is_receiver)
+            && entry.word.is(CallSet::RECEIVES)
+            && !is_refused
+    }
+
+    pub(super) fn is_receiver(&self, handle: u32) -> bool {
+        self.handle(handle).is_some_and(|handle| handle.is_receiver)
+    }
+
+    fn is_sender(&self, handle: u32) -> bool {
+        self.handle(handle)
+            .is_some_and(|handle| !handle.is_receiver)
+    }
+}

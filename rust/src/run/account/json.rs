@@ -1,0 +1,172 @@
+//! The account as JSON, which `yovanelum why --json` prints and a file of names has.
+
+use super::rest::KindCount;
+use super::window::WindowSaid;
+use super::{Account, Fact, FactStep, Failed, Rest, WaitAtEnd};
+use crate::run::journal::{Loss, LossEnd};
+use crate::run::names::{Json, SourceLocation, push_string};
+use std::fmt::Write;
+
+/// The version of the form.
+const VERSION: u64 = 1;
+
+impl Account {
+    /// Returns the object, without an end of its last line. Each fact, each wait and each loss is
+    /// on a line of its own.
+    pub(crate) fn to_json(&self) -> String {
+        let mut out = format!("{{\n  \"version\": {VERSION}");
+        push_member(&mut out, "calls", &Json::number(self.calls));
+        push_member(&mut out, "channels", &Json::number(self.channels));
+        if let Some(window) = &self.window {
+            push_window(&mut out, window);
+        }
+        let unknown = self.unknown.iter().map(|line| Json::text(line));
+        push_member(&mut out, "unknown", &Json::List(unknown.collect()));
+        push_member(
+            &mut out,
+            "failed",
+            &self.failed.as_ref().map_or(Json::Null, failed),
+        );
+        push_lines(&mut out, "facts", self.facts.iter().map(fact));
+        push_member(&mut out, "rest", &rest(&self.rest));
+        push_member(&mut out, "nothing", &optional_text(self.nothing.as_deref()));
+        push_lines(&mut out, "waiting", self.waiting.iter().map(wait));
+        push_lines(&mut out, "losses", self.losses.iter().map(loss));
+        push_member(&mut out, "failure", &optional_number(self.failure));
+        push_member(&mut out, "look", &Json::number(self.look));
+        out.push_str("\n}");
+        out
+    }
+}
+
+fn push_member(out: &mut String, key: &str, value: &Json) {
+    let _ = write!(out, ",\n  \"{key}\": ");
+    value.push(out);
+}
+
+/// Appends the window as the names have it, and what is said of it.
+fn push_window(out: &mut String, said: &WindowSaid) {
+    out.push_str(",\n  \"window\": {");
+    said.window.push_members(out);
+    out.push_str(", \"text\": ");
+    push_string(out, &said.text);
+    out.push('}');
+}
+
+/// Appends a list with each item on a line of its own.
+fn push_lines(out: &mut String, key: &str, items: impl Iterator<Item = Json>) {
+    let _ = write!(out, ",\n  \"{key}\": [");
+    let mut is_first = true;
+    for item in items {
+        out.push_str(if is_first { "\n    " } else { ",\n    " });
+        is_first = false;
+        item.push(out);
+    }
+    out.push_str(if is_first { "]" } else { "\n  ]" });
+}
+
+fn optional_text(text: Option<&str>) -> Json {
+    text.map_or(Json::Null, Json::text)
+}
+
+fn optional_number(number: Option<u64>) -> Json {
+    number.map_or(Json::Null, Json::number)
+}
+
+fn location_of(location: Option<&SourceLocation>) -> Json {
+    location.map_or(Json::Null, |location| {
+        Json::List(vec![
+            Json::text(&location.file),
+            Json::number(location.line),
+            Json::number(location.column),
+        ])
+    })
+}
+
+fn failed(failed: &Failed) -> Json {
+    Json::object(vec![
+        ("place", Json::number(failed.place)),
+        ("name", Json::text(&failed.name)),
+        ("message", Json::text(&failed.message)),
+        ("location", location_of(failed.location.as_ref())),
+        ("call", optional_number(failed.last_call)),
+        ("text", Json::text(&failed.text)),
+    ])
+}
+
+fn fact(fact: &Fact) -> Json {
+    let mut members = vec![
+        ("kind", Json::text(fact.kind)),
+        ("order", Json::number(fact.order)),
+    ];
+    members.extend(fact.members.iter().cloned());
+    let places = fact.steps.iter().enumerate();
+    let places = places.map(|(index, step)| place(index, step));
+    members.push(("places", Json::List(places.collect())));
+    let text = fact.text();
+    let text = text.iter().map(|line| Json::text(line));
+    members.push(("text", Json::List(text.collect())));
+    Json::object(members)
+}
+
+/// A step of a fact, with the index of its line.
+fn place(index: usize, step: &FactStep) -> Json {
+    let mut members = vec![
+        ("place", Json::number(step.place)),
+        ("role", Json::text(step.role.word())),
+        ("line", Json::number(index + 1)),
+        ("actor", optional_number(step.actor)),
+        ("location", location_of(step.location.as_ref())),
+    ];
+    if let Some(time) = step.time {
+        members.push(("time", Json::text(&time.iso())));
+    }
+    Json::object(members)
+}
+
+fn rest(rest: &Rest) -> Json {
+    let count = |count: &KindCount, of: &'static str, sum: &'static str| {
+        let members = [(of, count.of), (sum, count.sum)];
+        Json::object(
+            members
+                .map(|(key, number)| (key, Json::number(number)))
+                .into(),
+        )
+    };
+    Json::object(vec![
+        ("after", Json::number(rest.after)),
+        ("losses", count(&rest.losses, "receivers", "values")),
+        ("unlearned", count(&rest.unlearned, "receivers", "changes")),
+        ("unmarked", count(&rest.unmarked, "receivers", "changes")),
+        ("closings", Json::number(rest.closings.of)),
+        ("text", optional_text(rest.text().as_deref())),
+    ])
+}
+
+fn wait(wait: &WaitAtEnd) -> Json {
+    Json::object(vec![
+        ("actor", Json::number(wait.actor)),
+        ("channel", Json::number(wait.channel)),
+        ("handle", Json::number(wait.handle)),
+        ("call", Json::text(&wait.call)),
+        ("since", Json::number(wait.since)),
+        ("location", location_of(wait.location.as_ref())),
+        ("text", Json::text(&wait.text)),
+    ])
+}
+
+fn loss(loss: &Loss) -> Json {
+    let (word, to) = match loss.end {
+        LossEnd::Told(place) => ("told", Some(place)),
+        LossEnd::Dropped(place) => ("dropped", Some(place)),
+        LossEnd::Open => ("open", None),
+    };
+    Json::object(vec![
+        ("channel", Json::number(loss.channel)),
+        ("receiver", Json::number(loss.receiver)),
+        ("from", Json::number(loss.from)),
+        ("to", optional_number(to)),
+        ("lost", Json::number(loss.lost)),
+        ("end", Json::text(word)),
+    ])
+}

@@ -1,0 +1,101 @@
+//! The calls that still wait.
+
+use super::finding::Finding;
+use super::silence::Silence;
+use super::window::BEFORE;
+use super::{Context, visible};
+use crate::run::names::{HeldBy, SourceLocation, WaitingCall};
+
+/// A call that waits.
+#[derive(Debug)]
+pub(crate) struct WaitAtEnd {
+    pub(super) actor: u64,
+    pub(super) channel: u64,
+    pub(super) handle: u64,
+    pub(super) call: String,
+    /// How many calls had been made when it began to wait.
+    pub(super) since: u64,
+    pub(super) location: Option<SourceLocation>,
+    /// Whether a fact that is told in full tells of it.
+    pub(crate) is_told: bool,
+    /// Who waits, in which call, since when and where.
+    pub(crate) text: String,
+}
+
+impl WaitAtEnd {
+    /// Where it waits in the sources.
+    pub(crate) fn location(&self) -> Option<&SourceLocation> {
+        self.location.as_ref()
+    }
+}
+
+/// Returns the calls that wait on channels of the run. These findings are told in full.
+pub(super) fn all(context: &Context<'_>, told: &[Finding]) -> Vec<WaitAtEnd> {
+    let channels = context.run.specs().len() as u64;
+    let calls = context.names.waiting.iter().enumerate();
+    let calls = calls.filter(|(_, call)| call.channel < channels);
+    let is_told = |index: usize| {
+        let mut told = told.iter();
+        told.any(|it| matches!(it, Finding::Silence(Silence::Waits(at)) if *at == index))
+    };
+    let waits = calls.map(|(index, call)| WaitAtEnd {
+        is_told: is_told(index),
+        ..wait(context, call)
+    });
+    waits.collect()
+}
+
+fn wait(context: &Context<'_>, call: &WaitingCall) -> WaitAtEnd {
+    let since = context
+        .run
+        .place_of_stamp(call.since)
+        .max(context.history.lead);
+    let location = call.location.and_then(|index| context.naming.source(index));
+    WaitAtEnd {
+        actor: call.actor,
+        channel: call.channel,
+        handle: call.handle,
+        call: call.call.clone(),
+        since,
+        location: location.cloned(),
+        is_told: false,
+        text: text(context, call, since, location),
+    }
+}
+
+fn text(
+    context: &Context<'_>,
+    call: &WaitingCall,
+    since: u64,
+    location: Option<&SourceLocation>,
+) -> String {
+    let naming = context.naming;
+    let since = match since {
+        0 => "the start".to_string(),
+        place if place == context.history.lead => BEFORE.to_string(),
+        place => visible::call(place),
+    };
+    let at = location.map_or(String::new(), |location| {
+        format!(", {}", visible::line_of(location))
+    });
+    format!(
+        "{} in `{}` since {since}{at}{}",
+        naming.actor(call.actor),
+        naming.method(call.channel as u32, &visible::name(&call.call)),
+        call.held_by
+            .map_or(String::new(), |by| held_by(context, by)),
+    )
+}
+
+/// Returns whose look holds the lock that a call waits for.
+fn held_by(context: &Context<'_>, by: HeldBy) -> String {
+    let naming = context.naming;
+    let location = by.location.and_then(|index| naming.source(index));
+    let at = location.map_or(String::new(), |location| {
+        format!(" at {}", visible::line_of(location))
+    });
+    match by.actor {
+        Some(actor) => format!(", for a look taken{at} by {}", naming.actor(actor)),
+        None => ", for the lock of the value".to_string(),
+    }
+}

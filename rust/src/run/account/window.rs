@@ -1,0 +1,80 @@
+//! Why a run begins in a window, and which of its calls are those of the window.
+
+use super::times::utc;
+use super::visible;
+use crate::run::names::{Names, WindowNames};
+
+/// What a call is called that was made before the window, of which its journal has no place.
+pub(super) const BEFORE: &str = "before the window";
+
+/// The window of a run.
+#[derive(Debug)]
+pub(crate) struct WindowSaid {
+    /// When and why it was written, and its calls by their numbers.
+    pub(crate) text: String,
+    pub(super) window: WindowNames,
+}
+
+impl WindowSaid {
+    /// Returns what is said of a run with so many entries, if it has a window.
+    pub(super) fn of(names: &Names, length: u64) -> Option<WindowSaid> {
+        let window = names.window.clone()?;
+        let at = window.at;
+        let at = at.map_or(String::new(), |at| format!(" of {} UTC", utc(at)));
+        let reason = visible::path(&window.reason);
+        let text = format!("dump{at}: {reason}; {}", calls(window.lead, length));
+        Some(WindowSaid { text, window })
+    }
+}
+
+fn calls(lead: u64, length: u64) -> String {
+    let calls = match length - lead.min(length) {
+        0 => "no call".to_string(),
+        1 => visible::call(length),
+        _ => format!("calls {} to {length}", lead + 1),
+    };
+    match lead {
+        0 => calls,
+        1 => format!("{calls}; 1 leads to the window"),
+        lead => format!("{calls}; 1 to {lead} lead to the window"),
+    }
+}
+
+#[cfg(test)]
+mod tests {
+    use super::*;
+
+    #[test]
+    fn the_calls_keep_their_numbers() {
+        for (lead, length, wanted) in [
+            (
+                117,
+                20_117,
+                "calls 118 to 20117; 1 to 117 lead to the window",
+            ),
+            (0, 5, "calls 1 to 5"),
+            (1, 2, "call 2; 1 leads to the window"),
+            (3, 3, "no call; 1 to 3 lead to the window"),
+            (0, 0, "no call"),
+        ] {
+            assert_eq!(calls(lead, length), wanted);
+        }
+    }
+
+    #[test]
+    fn a_reason_is_on_one_line() {
+        let window = WindowNames {
+            reason: "asked\nfor".to_string(),
+            ..WindowNames::default()
+        };
+        let mut names = Names {
+            window: Some(window),
+            ..Names::default()
+        };
+        let text = |names: &Names| WindowSaid::of(names, 2).unwrap().text;
+        assert_eq!(text(&names), "dump: asked\\nfor; calls 1 to 2");
+        names.window.as_mut().unwrap().at = Some(0);
+        let wanted = "dump of 1970-01-01 00:00:00.000 UTC: asked\\nfor; calls 1 to 2";
+        assert_eq!(text(&names), wanted);
+    }
+}

@@ -1,0 +1,534 @@
+//! Conditions by names, as `lagging audit`: what a debugger and a search take where the console of
+//! `ttd` takes numbers.
+//!
+//! It is for `yovanelum-dap` and for exploring, and changes with them.
+
+use super::recorded::Recorded;
+use super::{Channel, Condition, NoCondition, Walk};
+use crate::run::account::visible;
+use std::collections::{BTreeMap, BTreeSet};
+use std::fmt;
+use std::str::FromStr;
+
+/// What a name stands for.
+#[derive(Clone, Copy, Debug, PartialEq, Eq)]
+pub enum Thing {
+    /// A channel, by its number.
+    Channel(u32),
+    /// A receiver, by the number of its channel and its own.
+    Receiver(u32, u32),
+    /// An actor, by its number.
+    Actor(u32),
+}
+
+/// What a condition is of, in words.
+#[derive(Clone, Copy, Debug, PartialEq, Eq)]
+pub enum Sort {
+    /// An actor.
+    Actor,
+    /// A channel of either kind.
+    Channel,
+    /// A broadcast channel.
+    Broadcast,
+    /// A watch channel.
+    Watch,
+    /// A receiver of a broadcast channel.
+    BroadcastReceiver,
+    /// A receiver of a watch channel.
+    WatchReceiver,
+    /// The first word of a reply.
+    Reply,
+}
+
+/// The words of conditions, what each is of, and whether a number follows.
+const WORDS: [(&str, Sort, bool); 9] = [
+    ("actor", Sort::Actor, false),
+    ("channel", Sort::Channel, false),
+    ("reply", Sort::Reply, false),
+    ("unread", Sort::BroadcastReceiver, true),
+    ("lagging", Sort::BroadcastReceiver, false),
+    ("unseen", Sort::WatchReceiver, false),
+    ("version", Sort::Watch, true),
+    ("closed", Sort::Channel, false),
+    ("queue", Sort::Broadcast, true),
+];
+
+/// A condition in which names may stand for numbers. It is read without a run.
+#[derive(Clone, Debug, PartialEq, Eq)]
+pub struct NamedCondition {
+    pub(crate) word: &'static str,
+    pub(crate) sort: Sort,
+    /// A name, or the numbers of a channel, a receiver or an actor, or the word of a reply.
+    pub(crate) name: String,
+    pub(crate) count: Option<u64>,
+}
+
+/// A number that no receiver has in a channel.
+const NO_NUMBER: u64 = u64::MAX;
+
+/// The things of a run, with their names.
+#[derive(Default)]
+pub struct Things {
+    channels: Vec<(String, bool)>,
+    receivers: BTreeMap<(u32, u32), String>,
+    /// The numbers of receivers in their channels, where these differ from those in the journal.
+    numbers: BTreeMap<(u32, u32), u64>,
+    actors: BTreeMap<u32, String>,
+    /// The only actor that made calls by each receiver without a name of its own, as far as that is
+    /// known.
+    users: BTreeMap<(u32, u32), String>,
+    by_name: BTreeMap<String, Thing>,
+}
+
+impl FromStr for NamedCondition {
+    type Err = NoCondition;
+
+    fn from_str(text: &str) -> Result<NamedCondition, NoCondition> {
+        let (word, rest) = text.trim().split_once(' ').ok_or(NoCondition)?;
+        let known = WORDS.iter().find(|(known, ..)| *known == word);
+        let (word, sort, has_count) = *known.ok_or(NoCondition)?;
+        let rest = rest.trim();
+        let (name, count) = if has_count {
+            let (name, count) = rest.rsplit_once(' ').ok_or(NoCondition)?;
+            (name.trim(), Some(count.parse().map_err(|_| NoCondition)?))
+        } else {
+            (rest, None)
+        };
+        let name = name.trim_matches('`');
+        let is_reply = || Condition::reply(name).is_some();
+        if name.is_empty() || sort == Sort::Reply && !is_reply() {
+            Err(NoCondition)
+        } else {
+            Ok(NamedCondition {
+                word,
+                sort,
+                name: name.to_string(),
+                count,
+            })
+        }
+    }
+}
+
+impl NamedCondition {
+    /// Returns the condition by the numbers of a run. Returns `None` if its name is none there.
+    /// Numbers are taken as they are.
+    pub fn by_numbers(&self, things: &Things) -> Option<Condition> {
+        if self.sort == Sort::Reply {
+            return Condition::reply(&self.name);
+        }
+        let numbers = match things.named_of(self.sort, &self.name) {
+            Some(Thing::Receiver(channel, handle)) => format!("{channel} {handle}"),
+            Some(Thing::Channel(number) | Thing::Actor(number)) => number.to_string(),
+            None => self.name.clone(),
+        };
+        let count = self.count.map(|count| format!(" {count}"));
+        let text = format!("{} {numbers}{}", self.word, count.unwrap_or_default());
+        text.parse().ok()
+    }
+
+    /// Whether the run has what the condition is of.
+    pub fn is_of(&self, things: &Things) -> bool {
+        self.sort == Sort::Reply || things.has(self.sort, &self.name)
+    }
+}
+
+impl fmt::Display for NamedCondition {
+    fn fmt(&self, f: &mut fmt::Formatter<'_>) -> fmt::Result {
+        write!(f, "{} {}", self.word, self.name)?;
+        self.count.map_or(Ok(()), |count| write!(f, " {count}"))
+    }
+}
+
+impl Sort {
+    /// Whether it is of channels of this kind. There may be no such channel.
+    fn is_of_channel(self, is_watch: Option<bool>) -> bool {
+        match self {
+            Sort::Actor | Sort::Reply => false,
+            Sort::Channel => is_watch.is_some(),
+            Sort::Broadcast | Sort::BroadcastReceiver => is_watch == Some(false),
+            Sort::Watch | Sort::WatchReceiver => is_watch == Some(true),
+        }
+    }
+
+    /// Returns what it is called, where there are several.
+    pub fn plural(self) -> &'static str {
+        match self {
+            Sort::Actor => "actors",
+            Sort::Channel => "channels",
+            Sort::Broadcast => "broadcast channels",
+            Sort::Watch => "watch channels",
+            Sort::BroadcastReceiver => "receivers of a broadcast",
+            Sort::WatchReceiver => "receivers of a watch",
+            Sort::Reply => "replies",
+        }
+    }
+}
+
+impl Things {
+    /// Names the things of a run: its channels, and these receivers and actors.
+    pub fn of(
+        walk: &Walk,
+        names: &Recorded,
+        receivers: impl IntoIterator<Item = (u32, u32)>,
+        actors: impl IntoIterator<Item = u32>,
+    ) -> Things {
+        let is_watch = |channel| matches!(walk.channel(channel), Some(Channel::Watch(_)));
+        let channel = |channel| (names.channel(channel), is_watch(channel));
+        let receiver = |(channel, handle)| ((channel, handle), names.receiver(channel, handle));
+        let actors = actors.into_iter();
+        let mut things = Things::named(
+            (0..walk.channels()).map(channel).collect(),
+            receivers.into_iter().map(receiver).collect(),
+            actors.map(|it| (it, names.actor(it))).collect(),
+        );
+        let all = things.receivers.keys();
+        let numbers = all.map(|&(channel, handle)| {
+            let number = names.number(channel, handle);
+            ((channel, handle), number.unwrap_or(NO_NUMBER))
+        });
+        things.numbers = numbers.collect();
+        things
+    }
+
+    /// Finds the things of a run, and names them.
+    pub(crate) fn found_in(walk: &Walk, names: &Recorded) -> Things {
+        let mut receivers: BTreeSet<_> = (0..walk.channels()).map(|channel| (channel, 1)).collect();
+        let mut actors = BTreeSet::new();
+        let mut users = BTreeMap::new();
+        for entry in (1..=walk.len()).filter_map(|place| walk.entry(place)) {
+            actors.insert(entry.actor());
+            receivers.extend(entry.new_receiver());
+            let user = users.entry((entry.channel(), entry.handle()));
+            let user = user.or_insert(Some(entry.actor()));
+            *user = user.filter(|user| *user == entry.actor());
+        }
+        let mut things = Things::of(walk, names, receivers, actors);
+        let users = users.into_iter();
+        things.users = users
+            .filter_map(|(handle, user)| Some((handle, names.actor(user?))))
+            .collect();
+        things
+    }
+
+    /// A name that several things have is that of a receiver before a channel, and of a channel
+    /// before an actor.
+    fn named(
+        channels: Vec<(String, bool)>,
+        receivers: BTreeMap<(u32, u32), String>,
+        actors: BTreeMap<u32, String>,
+    ) -> Things {
+        let of_actors = actors
+            .iter()
+            .map(|(actor, name)| (name.clone(), Thing::Actor(*actor)));
+        let of_channels = (0..).zip(&channels);
+        let of_channels = of_channels.map(|(it, (name, _))| (name.clone(), Thing::Channel(it)));
+        let of_receivers = receivers.iter().rev();
+        let of_receivers = of_receivers.map(|((channel, handle), name)| {
+            let receiver = Thing::Receiver(*channel, *handle);
+            (name.clone(), receiver)
+        });
+        Things {
+            by_name: of_actors.chain(of_channels).chain(of_receivers).collect(),
+            channels,
+            receivers,
+            numbers: BTreeMap::new(),
+            actors,
+            users: BTreeMap::new(),
+        }
+    }
+
+    /// Returns the number of a receiver in its channel.
+    pub fn number_of(&self, channel: u32, handle: u32) -> u64 {
+        let number = self.numbers.get(&(channel, handle));
+        number.copied().unwrap_or(handle.into())
+    }
+
+    /// Returns the number in the journal of a receiver that is written as `receiver1`.
+    fn receiver_numbered(&self, channel: u32, text: &str) -> Option<u32> {
+        let number = u64::from(numbered(text, "receiver")?);
+        let all = self.receivers.range((channel, 0)..=(channel, u32::MAX));
+        let mut all = all.map(|((_, handle), _)| *handle);
+        all.find(|handle| self.number_of(channel, *handle) == number)
+    }
+
+    /// The names.
+    pub fn names(&self) -> impl Iterator<Item = &str> {
+        self.by_name.keys().map(String::as_str)
+    }
+
+    /// Returns what a name stands for: a receiver, a channel, or an actor; or `channel0`, or the
+    /// receiver of a number as `orders.receiver1`.
+    pub fn find(&self, name: &str) -> Option<Thing> {
+        if let Some(thing) = self.by_name.get(&*visible::name(name)) {
+            return Some(*thing);
+        }
+        if let Some((channel, receiver)) = name.rsplit_once('.') {
+            let Some(Thing::Channel(channel)) = self.find(channel) else {
+                return None;
+            };
+            let handle = self.receiver_numbered(channel, receiver)?;
+            return Some(Thing::Receiver(channel, handle));
+        }
+        let channel = numbered(name, "channel")?;
+        ((channel as usize) < self.channels.len()).then_some(Thing::Channel(channel))
+    }
+
+    /// Returns the actor of a name.
+    pub fn actor(&self, name: &str) -> Option<u32> {
+        let name = visible::name(name);
+        let mut actors = self.actors.iter();
+        actors
+            .find(|(_, known)| **known == name)
+            .map(|(actor, _)| *actor)
+    }
+
+    fn channel(&self, name: &str, is_meant: impl Fn(u32) -> bool) -> Option<u32> {
+        let visible = visible::name(name);
+        let is_named = |number: &u32| self.channels[*number as usize].0 == visible;
+        let meant = || (0..self.channels.len() as u32).filter(|number| is_meant(*number));
+        let numbered = numbered(name, "channel");
+        meant()
+            .find(is_named)
+            .or_else(|| meant().find(|number| Some(*number) == numbered))
+    }
+
+    fn receiver(&self, name: &str, is_meant: impl Fn(u32) -> bool) -> Option<(u32, u32)> {
+        let visible = visible::name(name);
+        let meant = || {
+            self.receivers
+                .iter()
+                .filter(|((channel, _), _)| is_meant(*channel))
+        };
+        let of_name = || meant().find(|(_, known)| **known == visible);
+        // One that was never read has no reader's name.
+        let is_user = |receiver: &(u32, u32)| self.users.get(receiver) == Some(&visible);
+        let used = || {
+            meant().find(|((channel, handle), known)| {
+                let number = self.number_of(*channel, *handle);
+                **known == format!("receiver {number}") && is_user(&(*channel, *handle))
+            })
+        };
+        if let Some((receiver, _)) = of_name().or_else(used) {
+            return Some(*receiver);
+        }
+        let (channel, receiver) = name.rsplit_once('.')?;
+        let channel = self.channel(channel, is_meant)?;
+        let handle = self.receiver_numbered(channel, receiver)?;
+        Some((channel, handle))
+    }
+
+    fn is_watch(&self, channel: u32) -> Option<bool> {
+        let (_, is_watch) = self.channels.get(channel as usize)?;
+        Some(*is_watch)
+    }
+
+    /// Returns the thing of this sort that has this name.
+    pub(super) fn named_of(&self, sort: Sort, name: &str) -> Option<Thing> {
+        let is_meant = |channel| sort.is_of_channel(self.is_watch(channel));
+        Some(match sort {
+            Sort::Reply => return None,
+            Sort::Actor => Thing::Actor(self.actor(name)?),
+            Sort::Channel | Sort::Broadcast | Sort::Watch => {
+                Thing::Channel(self.channel(name, is_meant)?)
+            }
+            Sort::BroadcastReceiver | Sort::WatchReceiver => {
+                let (channel, handle) = self.receiver(name, is_meant)?;
+                Thing::Receiver(channel, handle)
+            }
+        })
+    }
+
+    /// Whether there is a thing of this sort that has this name, or these numbers.
+    fn has(&self, sort: Sort, name: &str) -> bool {
+        let numbers: Option<Vec<u32>> = name.split(' ').map(|it| it.parse().ok()).collect();
+        let is_meant = |channel: &u32| sort.is_of_channel(self.is_watch(*channel));
+        self.named_of(sort, name).is_some()
+            || match (sort, numbers.as_deref()) {
+                (Sort::Actor, Some([actor])) => self.actors.contains_key(actor),
+                (Sort::Channel | Sort::Broadcast | Sort::Watch, Some([channel])) => {
+                    is_meant(channel)
+                }
+                (_, Some([channel, handle])) => {
+                    is_meant(channel) && self.receivers.contains_key(&(*channel, *handle))
+                }
+                _ => false,
+            }
+    }
+
+    /// Returns the names of the things of this sort.
+    pub(crate) fn names_of(&self, sort: Sort) -> Vec<String> {
+        let is_meant = |channel: u32| sort.is_of_channel(self.is_watch(channel));
+        match sort {
+            Sort::Reply => Vec::new(),
+            Sort::Actor => self.actors.values().cloned().collect(),
+            Sort::Channel | Sort::Broadcast | Sort::Watch => (0..)
+                .zip(&self.channels)
+                .filter(|(channel, _)| is_meant(*channel))
+                .map(|(_, (name, _))| name.clone())
+                .collect(),
+            Sort::BroadcastReceiver | Sort::WatchReceiver => {
+                let meant = self.receivers.iter();
+                let meant = meant.filter(|((channel, _), _)| is_meant(*channel));
+                meant
+                    .map(|((channel, handle), name)| self.name_of(*channel, *handle, name))
+                    .collect()
+            }
+        }
+    }
+
+    /// Returns the name of a receiver, with that of its channel where it has none of its own.
+    fn name_of(&self, channel: u32, handle: u32, name: &str) -> String {
+        let number = self.number_of(channel, handle);
+        if *name == format!("receiver {number}") {
+            format!("{}.receiver{number}", self.channels[channel as usize].0)
+        } else {
+            name.to_string()
+        }
+    }
+}
+
+/// Reads `channel0` or `channel 0`.
+fn numbered(name: &str, word: &str) -> Option<u32> {
+    name.strip_prefix(word)?.trim_start().parse().ok()
+}
+
+#[cfg(test)]
+mod tests {
+    use super::*;
+
+    fn things() -> Things {
+        let named = |name: &str, is_watch| (name.to_string(), is_watch);
+        let receivers = [
+            ((0, 1), "audit"),
+            ((0, 2), "receiver 2"),
+            ((1, 1), "the reader"),
+        ];
+        let actors = [(0, "main"), (1, "audit"), (4, "7")];
+        Things::named(
+            vec![named("orders", false), named("config", true)],
+            receivers.map(|(it, name)| (it, name.to_string())).into(),
+            actors.map(|(it, name)| (it, name.to_string())).into(),
+        )
+    }
+
+    #[test]
+    fn receivers_of_a_window_are_known_by_their_numbers_in_the_channel() {
+        let mut things = things();
+        things.numbers = [((0, 1), NO_NUMBER), ((0, 2), 107), ((1, 1), 2)].into();
+        assert_eq!(
+            things.find("orders.receiver107"),
+            Some(Thing::Receiver(0, 2))
+        );
+        assert_eq!(
+            things.find("channel1.receiver2"),
+            Some(Thing::Receiver(1, 1))
+        );
+        for text in ["orders.receiver1", "orders.receiver2", "config.receiver1"] {
+            assert_eq!(things.find(text), None, "{text}");
+        }
+        let lagging: NamedCondition = "lagging orders.receiver107".parse().unwrap();
+        let numbered = lagging.by_numbers(&things).unwrap();
+        assert_eq!(numbered.to_string(), "lagging 0 2");
+    }
+
+    fn by_numbers(text: &str) -> Option<String> {
+        let condition: NamedCondition = text.parse().unwrap();
+        let numbered = condition.by_numbers(&things());
+        numbered.map(|condition| condition.to_string())
+    }
+
+    #[test]
+    fn names_stand_for_the_numbers_of_what_the_condition_is_of() {
+        for (text, numbers) in [
+            ("lagging audit", "lagging 0 1"),
+            ("lagging `audit`", "lagging 0 1"),
+            ("actor audit", "actor 1"),
+            ("unread receiver 2 3", "unread 0 2 3"),
+            ("unread orders.receiver2 3", "unread 0 2 3"),
+            ("unseen the reader", "unseen 1 1"),
+            ("unseen channel1.receiver1", "unseen 1 1"),
+            ("version config 4", "version 1 4"),
+            ("closed orders", "closed 0"),
+            ("queue channel 0 2", "queue 0 2"),
+            ("channel config", "channel 1"),
+            ("actor 7", "actor 4"),
+            ("actor 1", "actor 1"),
+            ("lagging 0 2", "lagging 0 2"),
+            ("reply lagged", "reply lagged"),
+        ] {
+            assert_eq!(by_numbers(text).as_deref(), Some(numbers), "{text}");
+            let condition: NamedCondition = text.parse().unwrap();
+            assert!(condition.is_of(&things()), "{text}");
+        }
+    }
+
+    #[test]
+    fn what_there_is_not_is_no_condition_of_the_run() {
+        for text in [
+            "lagging audti",
+            "lagging the reader",
+            "unseen audit",
+            "lagging main",
+            "version orders 1",
+            "queue config 1",
+            "closed audit",
+            "actor orders",
+            "lagging orders.receiver7",
+        ] {
+            let condition: NamedCondition = text.parse().unwrap();
+            assert_eq!(by_numbers(text), None, "{text}");
+            assert!(!condition.is_of(&things()), "{text}");
+        }
+        for text in [
+            "lagging 0 7",
+            "lagging 1 1",
+            "closed 2",
+            "actor 2",
+            "unread 7 1 1",
+        ] {
+            let condition: NamedCondition = text.parse().unwrap();
+            assert_eq!(by_numbers(text).as_deref(), Some(text));
+            assert!(!condition.is_of(&things()), "{text}");
+        }
+        assert_eq!(
+            things().names_of(Sort::BroadcastReceiver),
+            ["audit", "orders.receiver2"]
+        );
+    }
+
+    #[test]
+    fn a_receiver_that_was_never_read_has_the_name_of_its_only_user() {
+        let journal = "ttd-journal 2\nbroadcast 2\nsteps\n1 0 0 send 0 0 = sent 1\n2 3 0 drop 1 = dropped\nend\n";
+        let names = "{\"version\": 3, \"actors\": {\"0\": \"shop\", \"3\": \"audit\"}, \"channels\": {}, \"values\": {}}";
+        let opened =
+            super::super::recorded::Opened::read(journal.as_bytes(), Some(names.to_string()));
+        let opened = opened.unwrap_or_else(|fault| panic!("{fault}"));
+        assert_eq!(opened.names_fault, None);
+        let things = Things::found_in(&opened.walk, &opened.recorded);
+        let condition: NamedCondition = "lagging audit".parse().unwrap();
+        assert_eq!(
+            condition.by_numbers(&things).unwrap().to_string(),
+            "lagging 0 1"
+        );
+        let condition: NamedCondition = "lagging shop".parse().unwrap();
+        assert!(condition.by_numbers(&things).is_none());
+    }
+
+    #[test]
+    fn a_text_that_is_no_condition_is_refused() {
+        for text in [
+            "",
+            "lagging",
+            "lagging ",
+            "lagging ``",
+            "lags audit",
+            "unread audit",
+            "unread 3",
+            "queue orders many",
+            "version config -1",
+            "reply late",
+        ] {
+            assert_eq!(text.parse::<NamedCondition>(), Err(NoCondition), "{text}");
+        }
+    }
+}

@@ -1,0 +1,189 @@
+//! Runs, as the core makes them of recorded calls and reads them from journal texts, and what it
+//! finds in them.
+//!
+//! A place is a number of entries: at place 3 the first three calls have been made. All that reads
+//! a journal or saves one has a run of here.
+
+#[cfg(test)]
+pub(crate) mod tests;
+
+pub(crate) use crate::core::source::rw_findings::{
+    ChannelTraffic, ChannelValue, values_between, values_by,
+};
+pub(crate) use crate::core::source::rw_recording::{
+    Closing, Counts, Findings, LateReader, Loss, LossEnd, Spec, TextFault, Totals,
+};
+
+use crate::core::shim::alloc::Global;
+use crate::core::source::rw_findings::traffic_of;
+use crate::core::source::rw_law::{self, NoMemory};
+use crate::core::source::rw_navigator::Debugger;
+use crate::core::source::rw_recording::{self, ChanCall, World};
+use crate::core::source::rw_text;
+use crate::run::reply::Reply;
+use crate::run::word::Word;
+
+/// A run: the channels of a recorder and their calls, or those of a journal text that was read.
+pub(crate) struct Run(pub(crate) rw_recording::Run<u64>);
+
+/// The values and the lives of the handles of each channel that was asked for.
+pub(crate) type FoundTraffic = Vec<Option<ChannelTraffic<u64>>>;
+
+/// A recorded call.
+#[derive(Clone, Copy, Debug, PartialEq, Eq)]
+pub(crate) struct RunEntry {
+    pub(crate) stamp: u64,
+    pub(crate) actor: u32,
+    pub(crate) channel: u32,
+    pub(crate) handle: u32,
+    pub(crate) word: Word,
+    /// The number of the value that the call passes, if it passes one.
+    pub(crate) value: Option<u64>,
+    pub(crate) reply: Reply,
+}
+
+impl RunEntry {
+    pub(crate) fn of(entry: &rw_law::Entry<World<u64>>) -> RunEntry {
+        let call = &entry.call.call;
+        RunEntry {
+            stamp: entry.stamp,
+            actor: entry.actor,
+            channel: entry.call.channel,
+            handle: call.handle(),
+            word: Word::of(call),
+            value: value_of(call),
+            reply: Reply::of(&Ok(entry.reply)),
+        }
+    }
+}
+
+fn value_of(call: &ChanCall<u64>) -> Option<u64> {
+    use rw_recording::{BCall, WCall};
+    match call {
+        ChanCall::B(BCall::Send(_, value)) => Some(*value),
+        ChanCall::W(WCall::Send(_, value) | WCall::SendReplace(_, value)) => Some(*value),
+        ChanCall::W(WCall::Modify { value, .. }) => Some(*value),
+        _ => None,
+    }
+}
+
+impl Run {
+    /// Wraps a run of the core.
+    pub(crate) fn of(run: rw_recording::Run<u64>) -> Run {
+        Run(run)
+    }
+
+    /// Returns the journal text of the run.
+    ///
+    /// # Errors
+    ///
+    /// Returns `NoMemory` if there is none for the text.
+    pub(crate) fn text(&self) -> Result<Vec<u8>, NoMemory> {
+        let mut text = crate::core::shim::Vec::new(Global);
+        rw_text::write(&self.0, &mut text).map_err(|_| NoMemory)?;
+        // The bytes stay where they are.
+        Ok(text.into_iter().collect())
+    }
+
+    /// Reads the run of a journal text.
+    ///
+    /// # Errors
+    ///
+    /// Returns the first fault of the text, as `ttd check` does.
+    pub(crate) fn read(text: &[u8]) -> Result<Run, TextFault> {
+        rw_text::read(Global, text).map(Run)
+    }
+
+    /// Reads the run of a journal text that may be truncated. Returns also how many bytes its whole
+    /// lines have.
+    ///
+    /// # Errors
+    ///
+    /// Returns the first fault of the text, if it isn't only truncated.
+    pub(crate) fn salvage(text: &[u8]) -> Result<(Run, usize), TextFault> {
+        let (run, bytes) = rw_text::salvage(Global, text)?;
+        Ok((Run(run), bytes as usize))
+    }
+
+    /// Opens the debugger of a copy of the run, at place 0.
+    ///
+    /// # Errors
+    ///
+    /// Returns `NoMemory` if there is none for the copy.
+    pub(crate) fn debugger(&self) -> Result<Debugger<u64>, TextFault> {
+        Debugger::open(Global, &self.0).map_err(|NoMemory| TextFault::NoMemory)
+    }
+
+    /// Returns what is found in the run.
+    ///
+    /// # Errors
+    ///
+    /// Returns `NoMemory` if there is none.
+    pub(crate) fn findings(&self) -> Result<Findings, TextFault> {
+        Findings::of(Global, &self.0).map_err(|_| TextFault::NoMemory)
+    }
+
+    /// Returns the values, and the lives of the handles, of each channel that is asked for, found
+    /// in one pass over the entries. Of the others there is `None`.
+    ///
+    /// # Errors
+    ///
+    /// Returns `NoMemory` if there is none for them.
+    pub(crate) fn traffic(&self, channels: &[bool]) -> Result<FoundTraffic, TextFault> {
+        match traffic_of(Global, &self.0, channels) {
+            Ok(found) => Ok(found.into_iter().collect()),
+            Err(NoMemory) => Err(TextFault::NoMemory),
+        }
+    }
+
+    /// What the channels were opened as.
+    pub(crate) fn specs(&self) -> &[Spec<u64>] {
+        self.0.specs()
+    }
+
+    /// How many entries the run has.
+    pub(crate) fn len(&self) -> u64 {
+        self.0.len()
+    }
+
+    /// Returns the entry that led to a place from 1 on.
+    pub(crate) fn entry(&self, place: u64) -> RunEntry {
+        RunEntry::of(&self.0.entries()[place as usize - 1])
+    }
+
+    /// Returns each entry with the place that it led to.
+    pub(crate) fn entries(&self) -> impl Iterator<Item = (u64, RunEntry)> {
+        (1..).zip(self.0.entries().iter().map(RunEntry::of))
+    }
+
+    /// How many entries each channel has.
+    pub(crate) fn entries_by_channel(&self) -> Vec<usize> {
+        let mut counts = vec![0; self.specs().len()];
+        for entry in self.0.entries() {
+            counts[entry.call.channel as usize] += 1;
+        }
+        counts
+    }
+
+    /// Returns the last stamp up to this one that an entry has, or 0.
+    pub(crate) fn last_stamp(&self, stamp: u64) -> u64 {
+        match self.place_of_stamp(stamp) {
+            0 => 0,
+            place => self.0.entries()[place as usize - 1].stamp,
+        }
+    }
+
+    /// Returns the place at which all entries with stamps up to this one had been made.
+    pub(crate) fn place_of_stamp(&self, stamp: u64) -> u64 {
+        let entries = self.0.entries();
+        entries.partition_point(|entry| entry.stamp <= stamp) as u64
+    }
+}
+
+/// Returns the words of `ttd check` for a fault.
+pub(crate) fn said(fault: TextFault) -> String {
+    match fault {
+        TextFault::NoMemory => "no memory".to_string(),
+        fault => format!("journal fault {fault}"),
+    }
+}

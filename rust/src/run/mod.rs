@@ -1,0 +1,12 @@
+//! The second layer: a run that is read, and all that is said of it.
+
+pub(crate) mod account;
+pub(crate) mod calls;
+pub(crate) mod clock;
+pub(crate) mod command;
+pub mod debugger;
+pub(crate) mod journal;
+pub(crate) mod names;
+pub(crate) mod reply;
+pub(crate) mod report;
+pub(crate) mod word;

@@ -1,0 +1,180 @@
+//! The text that a failing test prints: the [`Account`] of its run, in the form in which rustc
+//! writes its errors, which editors read. The end of a test, the command and the debugger print it.
+
+mod colours;
+pub(crate) mod page;
+mod sarif;
+#[cfg(test)]
+mod tests;
+mod workflow;
+
+pub(crate) use sarif::sarif;
+
+use crate::run::account::visible::{self, first, path};
+use crate::run::account::{Account, Fact, MOST_TOLD};
+use crate::run::journal::{Run, TextFault};
+use crate::run::names::{Names, SourceLocation};
+use colours::Colours;
+use std::env;
+use std::io::IsTerminal;
+use workflow::Workflow;
+
+/// The level of each fact that is told in full.
+const LEVELS: [&str; MOST_TOLD] = ["error", "warning", "warning"];
+
+/// The level of a fact that is usual in a test that passes.
+const USUAL: &str = "warning";
+
+/// How many calls that wait are told.
+const SHOWN_WAITS: usize = 3;
+
+/// The account of a run, to be printed.
+#[derive(Debug)]
+pub(crate) struct Report(Account);
+
+impl Report {
+    /// Makes the report on the run of this journal text.
+    ///
+    /// # Errors
+    ///
+    /// Returns the first fault of the text, if it is not a journal.
+    pub(crate) fn new(text: &[u8], names: &Names) -> Result<Report, TextFault> {
+        Account::read(text, names).map(Report)
+    }
+
+    /// Makes the report on a run.
+    ///
+    /// # Errors
+    ///
+    /// Returns `NoMemory` if there is none for what is found.
+    pub(crate) fn on(run: &Run, names: &Names) -> Result<Report, TextFault> {
+        Account::on(run, names).map(Report)
+    }
+
+    /// Makes the report of an account.
+    pub(crate) fn of(account: Account) -> Report {
+        Report(account)
+    }
+
+    /// The account that it prints.
+    pub(crate) fn account(&self) -> &Account {
+        &self.0
+    }
+
+    /// The call that is worth looking at first, or 0 for the start.
+    pub(crate) fn call(&self) -> u64 {
+        self.0.look
+    }
+
+    /// Returns the text, with a last line that says where to look, if there is one.
+    pub(crate) fn text(self, look: Option<String>, has_colours: bool) -> String {
+        let colours = Colours { has_colours };
+        let mut lines = self.before_facts();
+        for (level, fact) in self.told() {
+            push_fact(&mut lines, fact, level, colours);
+        }
+        lines.extend(self.after_facts(colours));
+        lines.extend(self.commands());
+        lines.extend(look.map(|look| format!("{} {look}", colours.look("look:"))));
+        lines.iter().map(|line| format!("{line}\n")).collect()
+    }
+
+    /// Returns the lines of the facts that are told in full, without colours.
+    pub(crate) fn told_lines(&self) -> String {
+        let mut lines = vec![];
+        let colours = Colours { has_colours: false };
+        for (level, fact) in self.told() {
+            push_fact(&mut lines, fact, level, colours);
+        }
+        lines.iter().map(|line| format!("{line}\n")).collect()
+    }
+
+    /// Returns the facts that are told in full, with their levels.
+    fn told(&self) -> impl Iterator<Item = (&'static str, &Fact)> {
+        let Report(account) = self;
+        let facts = account.facts.iter().take(account.rest.after);
+        facts.zip(LEVELS).map(|(fact, level)| {
+            let level = if fact.is_usual() { USUAL } else { level };
+            (level, fact)
+        })
+    }
+
+    /// Returns the lines that say why there is a dump, and what isn't known.
+    fn before_facts(&self) -> Vec<String> {
+        let Report(account) = self;
+        let window = account.window.iter();
+        let window = window.map(|window| format!("yovanelum: {}", window.text));
+        let why = account.unknown.join("; ");
+        let line = format!("yovanelum: not all is known: {why}");
+        let failed = account.failed.iter();
+        let failed = failed.map(|failed| format!("failed: {}", failed.text));
+        let window = window.chain((!why.is_empty()).then_some(line));
+        window.chain(failed).collect()
+    }
+
+    /// Returns the lines of the other facts, of what was not found, and of the calls that wait.
+    fn after_facts(&self, colours: Colours) -> Vec<String> {
+        let Report(account) = self;
+        let nothing = account.nothing.as_ref();
+        let nothing = nothing.map(|line| format!("yovanelum: {line}"));
+        let waits = account.waiting.iter().filter(|wait| !wait.is_told);
+        let waits = waits.map(|wait| wait.text.clone());
+        let waits: Vec<_> = waits.collect();
+        let label = colours.waiting("still waiting:");
+        let waiting = format!("{label} {}", first(&waits, SHOWN_WAITS, "; "));
+        let waiting = (!waits.is_empty()).then_some(waiting);
+        let lines = account.rest.text().into_iter();
+        lines.chain(nothing).chain(waiting).collect()
+    }
+
+    /// Returns the commands for the workflow that runs this program, if one does.
+    fn commands(&self) -> Vec<String> {
+        let Some(workflow) = Workflow::current() else {
+            return vec![];
+        };
+        let root = self.0.root.as_deref();
+        let told = self.told();
+        told.map(|(level, fact)| workflow.command(level, fact, root))
+            .collect()
+    }
+}
+
+/// Appends the lines of a fact. The first one has both its places in the sources on lines of their
+/// own, and the others have one.
+fn push_fact(lines: &mut Vec<String>, fact: &Fact, level: &str, colours: Colours) {
+    let is_first = level == LEVELS[0];
+    let head = colours.head(&fact.head);
+    lines.push(format!("{} {head}", colours.level(level)));
+    let mut sights = fact.sights();
+    lines.extend(sights.next().map(|(_, location)| arrow(location)));
+    if let Some((step, location)) = sights.next().filter(|_| is_first) {
+        let sentence = step.role.sentence();
+        lines.push(format!("note: {}, {sentence}", step.name()));
+        lines.push(arrow(location));
+    }
+    let others = fact.text().into_iter().skip(1);
+    lines.extend(others.map(|line| match line.strip_prefix("  lost:") {
+        Some(lost) => format!("  {}{lost}", colours.lost("lost:")),
+        None => line,
+    }));
+}
+
+/// Says which call to look at where there is no address for it.
+pub(crate) fn at_call(call: u64) -> String {
+    match call {
+        0 => "before the first call".to_string(),
+        call => format!("at {}", visible::call(call)),
+    }
+}
+
+/// Returns a place in the sources as rustc writes it.
+fn arrow(location: &SourceLocation) -> String {
+    let SourceLocation { file, line, column } = location;
+    format!("  --> {}:{line}:{column}", path(file))
+}
+
+/// Whether colours are written to this: if it is a terminal, and the variable `NO_COLOR` isn't set.
+pub(crate) fn has_colours(out: &impl IsTerminal) -> bool {
+    let is_unwanted = env::var_os("NO_COLOR").is_some_and(|value| !value.is_empty());
+    out.is_terminal() && !is_unwanted
+}

@@ -1,0 +1,32 @@
+//! A run that is explored: each call stands before the [`Explorer`], and each poll of a task, until
+//! it is let go.
+//!
+//! `run.rs` is such a run, in a process of its own. `state.rs` has who stands, `chooser.rs` the
+//! strategies, `looks.rs` those who only look, `threads.rs` whether all other threads sleep, and
+//! `helper.rs` the thread that looks for that. `schedule.rs` is the file of the choices, which a
+//! replay follows too. `guide.rs` is the strategy that a condition guides, which `asked.rs` reads.
+
+mod asked;
+mod chooser;
+mod explorer;
+mod guide;
+mod helper;
+mod looks;
+mod order;
+mod pin;
+mod random;
+mod run;
+mod schedule;
+mod state;
+mod system_call;
+mod threads;
+
+pub(crate) use asked::{FOR, condition};
+pub(crate) use explorer::Explorer;
+pub(crate) use order::{Order, OrderKind};
+pub(crate) use run::{
+    ORDER, PROCESSOR, SCHEDULE, SESSION, TARGET, TestReport, begin, end, follow, followed,
+    is_of_session, is_run_of_search, is_time_offered, target_folder, watch,
+};
+pub(crate) use schedule::{RunEnd, Schedule, Step, Turn, What};
+pub(crate) use threads::{Asked, Sleeper, ThreadId, Threads, this_thread};

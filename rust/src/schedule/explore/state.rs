@@ -1,0 +1,406 @@
+//! Who stands before the gate, and how the next one is chosen. The explorer locks it.
+
+use super::chooser::{Candidate, Chooser};
+use super::looks::{CallInSource, Looks};
+use super::order::Order;
+use super::schedule::{Schedule, Step, Turn, What};
+use super::threads::{Asked, SOON, Sleeper, ThreadId, Threads, this_thread};
+use crate::channels::turns::Coming;
+use std::collections::HashMap;
+use std::sync::{Arc, Condvar};
+use std::task::Waker;
+use std::thread;
+use std::time::{Duration, Instant};
+
+/// How many are let go in a run before all go on in any order.
+const MOST_STEPS: usize = 50_000;
+
+/// How often what is held comes round before its runtime is taken to have nothing else to do. A
+/// runtime of tokio looks at its timers, and at the tasks that have yielded, every 61 polls.
+const ROUNDS: usize = 128;
+
+/// The name of time where it is chosen. No caller is first by name before it.
+const TIME: &str = "(time)";
+
+/// One who stands before the gate.
+pub(super) struct Stand {
+    pub(super) who: Arc<str>,
+    /// `None` for the poll of a task.
+    pub(super) call: Option<Coming>,
+    pub(super) thread: ThreadId,
+    pub(super) number: u64,
+    pub(super) is_chosen: bool,
+    /// What its thread waits for, where a call blocks it.
+    pub(super) own: Arc<Condvar>,
+    /// What wakes its task. A task without one wakes itself at once, so that its runtime isn't
+    /// idle.
+    pub(super) waker: Option<Waker>,
+    /// How often it has come round since something else happened on its thread.
+    pub(super) rounds: usize,
+    pub(super) spins: bool,
+}
+
+pub(super) struct ExplorerState {
+    pub(super) stands: Vec<Stand>,
+    pub(super) chooser: Chooser,
+    pub(super) schedule: Schedule,
+    pub(super) looks: Looks,
+    pub(super) threads: Threads,
+    /// What the helper is to wake, and how many it wakes now.
+    pub(super) wakers: Vec<Waker>,
+    pub(super) waking: usize,
+    pub(super) is_helper_idle: bool,
+    /// How often something has moved, and when it did last.
+    pub(super) moves: u64,
+    pub(super) moved_at: Instant,
+    /// The thread of the test.
+    main: ThreadId,
+    /// Whether the runtime on it is let be idle.
+    pub(super) is_let_idle: bool,
+    is_time_offered: bool,
+    last: Option<Arc<str>>,
+    /// When each caller went last.
+    went_at: HashMap<Arc<str>, usize>,
+    /// Timed waits that time was let pass for in vain.
+    vain: Vec<Sleeper>,
+    next_number: u64,
+    /// How many have each name.
+    names: HashMap<String, u32>,
+}
+
+impl ExplorerState {
+    pub(super) fn new(order: &Order, chooser: Chooser, is_time_offered: bool) -> ExplorerState {
+        let threads = Threads::of_this_process();
+        let mut schedule = Schedule::new(order.to_string());
+        schedule.by_clock = threads.is_by_clock();
+        ExplorerState {
+            stands: Vec::new(),
+            chooser,
+            schedule,
+            looks: Looks::default(),
+            threads,
+            wakers: Vec::new(),
+            waking: 0,
+            is_helper_idle: false,
+            moves: 0,
+            moved_at: Instant::now(),
+            main: this_thread(),
+            is_let_idle: order.has_timers,
+            is_time_offered,
+            last: None,
+            went_at: HashMap::new(),
+            vain: Vec::new(),
+            next_number: 0,
+            names: HashMap::new(),
+        }
+    }
+
+    /// Returns a name that no other caller has: this one, with a number from the second one on.
+    pub(super) fn numbered(&mut self, name: &str) -> Arc<str> {
+        let count = self.names.entry(name.to_string()).or_default();
+        *count += 1;
+        match count {
+            1 => name.into(),
+            count => format!("{name} {count}").into(),
+        }
+    }
+
+    pub(super) fn moved(&mut self) {
+        self.moves += 1;
+        self.moved_at = Instant::now();
+    }
+
+    /// Adds one who stands from now on, on this thread.
+    pub(super) fn add(&mut self, who: Arc<str>, call: Option<Coming>) -> &mut Stand {
+        let thread = this_thread();
+        self.new_round(thread);
+        let number = self.next_number;
+        self.next_number += 1;
+        self.stands.push(Stand {
+            who,
+            call,
+            thread,
+            number,
+            is_chosen: false,
+            own: Arc::default(),
+            waker: None,
+            rounds: 0,
+            spins: thread == self.main && !self.is_let_idle,
+        });
+        let last = self.stands.len() - 1;
+        &mut self.stands[last]
+    }
+
+    /// Begins to count rounds again, since something else happened on this thread.
+    pub(super) fn new_round(&mut self, thread: ThreadId) {
+        let here = self.stands.iter_mut();
+        here.filter(|stand| stand.thread == thread)
+            .for_each(|stand| stand.rounds = 0);
+    }
+
+    /// Returns the index of the poll of this task.
+    pub(super) fn poll_of(&self, who: &Arc<str>) -> Option<usize> {
+        let mut stands = self.stands.iter();
+        stands.position(|stand| stand.call.is_none() && stand.who == *who)
+    }
+
+    /// Takes the stand of a poll out, since it goes on. Returns its waker.
+    pub(super) fn take_poll(&mut self, index: usize) -> Option<Waker> {
+        let stand = self.stands.swap_remove(index);
+        self.new_round(this_thread());
+        stand.waker
+    }
+
+    fn is_blocked(&self, thread: ThreadId) -> bool {
+        let mut stands = self.stands.iter();
+        stands.any(|stand| stand.call.is_some() && stand.thread == thread)
+    }
+
+    /// Whether a thread polls nothing but what is held back, again and again.
+    pub(super) fn only_holds(&self, thread: ThreadId) -> bool {
+        let here = || self.stands.iter().filter(|stand| stand.thread == thread);
+        let is_held = |stand: &Stand| stand.spins && !stand.is_chosen && stand.rounds >= 2;
+        let rounds: usize = here().map(|stand| stand.rounds).sum();
+        rounds >= ROUNDS && here().all(|stand| stand.call.is_none() && is_held(stand))
+    }
+
+    /// Whether one was chosen that has yet to go on.
+    fn is_one_on_the_way(&mut self) -> bool {
+        if self.waking > 0 || !self.wakers.is_empty() {
+            return true;
+        }
+        let chosen = self.stands.iter().filter(|stand| stand.is_chosen);
+        let spinning: Vec<ThreadId> = if chosen.clone().any(|stand| stand.call.is_some()) {
+            return true;
+        } else {
+            chosen
+                .filter(|stand| stand.spins)
+                .map(|stand| stand.thread)
+                .collect()
+        };
+        spinning
+            .into_iter()
+            .any(|thread| !self.is_blocked(thread) && !self.is_asleep(thread))
+    }
+
+    /// Whether this thread sleeps, for what no task of it is polled.
+    fn is_asleep(&mut self, thread: ThreadId) -> bool {
+        let asked = |other| {
+            if other == thread && other != this_thread() {
+                Asked::Sleeps
+            } else {
+                Asked::Nothing
+            }
+        };
+        let still = Duration::ZERO;
+        let sleepers = self.threads.sleepers(still, asked);
+        sleepers.is_some_and(|sleepers| !sleepers.is_empty())
+    }
+
+    /// Returns where the other threads sleep, if all do that don't stand. They have been looked at
+    /// twice, and have slept at the same places.
+    pub(super) fn rest(&mut self) -> Option<Vec<Sleeper>> {
+        if self.is_one_on_the_way() {
+            return None;
+        }
+        let first = self.look()?;
+        let second = self.look()?;
+        if first != second {
+            return None;
+        }
+        let is_timer = |sleeper: &Sleeper| sleeper.thread == self.main && sleeper.is_timed();
+        let has_polled = || {
+            let mut stands = self.stands.iter();
+            self.schedule.has_timers || stands.any(|stand| stand.call.is_none())
+        };
+        if first.iter().any(is_timer) && (has_polled() || self.has_gone_by_poll()) {
+            self.schedule.has_timers = true;
+        }
+        Some(first)
+    }
+
+    /// Whether a task was polled.
+    fn has_gone_by_poll(&self) -> bool {
+        let mut steps = self.schedule.steps.iter().take(64);
+        steps.any(|step| step.what == What::Poll)
+    }
+
+    fn look(&mut self) -> Option<Vec<Sleeper>> {
+        let this = this_thread();
+        let mut asked = HashMap::new();
+        for stand in &self.stands {
+            let (is_blocked, thread) = (stand.call.is_some(), stand.thread);
+            if is_blocked && !stand.is_chosen {
+                asked.insert(thread, Asked::Nothing);
+            } else if !is_blocked && stand.spins && !asked.contains_key(&thread) {
+                let may_run = self.only_holds(thread);
+                asked.insert(
+                    thread,
+                    if may_run {
+                        Asked::MayRun
+                    } else {
+                        Asked::Sleeps
+                    },
+                );
+            }
+        }
+        asked.insert(this, Asked::Nothing);
+        let still = self.moved_at.elapsed();
+        self.threads.sleepers(still, |thread| {
+            asked.get(&thread).copied().unwrap_or(Asked::Sleeps)
+        })
+    }
+
+    /// Lets one go of those who stand, while the other threads sleep at these places.
+    pub(super) fn choose(&mut self, rest: &[Sleeper]) {
+        let candidates = self.candidates(rest);
+        if candidates.is_empty() {
+            return;
+        }
+        let chosen = self.chooser.choose(&candidates);
+        let last = self.last.as_ref();
+        let could_go_on = candidates.iter().any(|other| Some(&other.who) == last);
+        let Candidate { who, what, number } = &candidates[chosen];
+        self.schedule.steps.push(Step {
+            chosen: chosen as u32,
+            count: candidates.len() as u32,
+            turn: if !could_go_on {
+                Turn::Free
+            } else if Some(who) == last {
+                Turn::Same
+            } else {
+                Turn::Switch
+            },
+            what: what.clone(),
+            at: self.place_of(*number),
+            who: who.clone(),
+        });
+        self.moved();
+        if let What::Time { .. } = what {
+            // Time is the switch, and whoever it wakes may go on.
+            self.last = None;
+            return self.let_time_pass(rest);
+        }
+        let (who, number) = (who.clone(), *number);
+        self.went_at.insert(who.clone(), self.schedule.steps.len());
+        self.last = Some(who);
+        self.let_go(number);
+    }
+
+    fn place_of(&self, number: u64) -> Option<(String, u32)> {
+        let stand = self.stands.iter().find(|stand| stand.number == number)?;
+        let at = stand.call?.called_at?;
+        Some((at.file().to_string(), at.line()))
+    }
+
+    fn let_go(&mut self, number: u64) {
+        let mut stands = self.stands.iter_mut();
+        if let Some(stand) = stands.find(|stand| stand.number == number) {
+            stand.is_chosen = true;
+            match stand.waker.take() {
+                Some(waker) => self.wakers.push(waker),
+                None => stand.own.notify_all(),
+            }
+        }
+    }
+
+    /// Returns who may be let go. The first one goes on without a switch: the one that went last,
+    /// or else the first by name.
+    fn candidates(&self, rest: &[Sleeper]) -> Vec<Candidate> {
+        let is_stuck = |stand: &Stand| {
+            let sleeps = || rest.iter().any(|sleeper| sleeper.thread == stand.thread);
+            stand.call.is_none() && (self.is_blocked(stand.thread) || stand.spins && sleeps())
+        };
+        let open = self.stands.iter();
+        let open = open.filter(|stand| !stand.is_chosen && !is_stuck(stand));
+        let mut standing: Vec<&Stand> = open.collect();
+        if standing.is_empty() {
+            return Vec::new();
+        }
+        let is_idle = |stand: &Stand| {
+            let call = stand.call.as_ref().map(CallInSource::of);
+            self.looks.is_idle(&stand.who, call)
+        };
+        let is_any_busy = standing.iter().any(|stand| !is_idle(stand));
+        if is_any_busy {
+            standing.retain(|stand| !is_idle(stand));
+        }
+        let mut all: Vec<Candidate> = standing.into_iter().map(candidate).collect();
+        all.sort_by(|a, b| (&a.who, a.number).cmp(&(&b.who, b.number)));
+        let is_time_near = self.is_time_near(rest);
+        let first = if is_any_busy {
+            all.iter()
+                .position(|one| Some(&one.who) == self.last.as_ref())
+        } else {
+            // They take turns.
+
+            let went_at = |index: &usize| self.went_at.get(&all[*index].who);
+            (0..all.len()).min_by_key(went_at)
+        };
+        let first = first.unwrap_or(0);
+        all[..=first].rotate_right(1);
+        if is_time_near {
+            let time = Candidate {
+                who: TIME.into(),
+                what: What::Time { ready: ready(&all) },
+                number: u64::MAX,
+            };
+            // Where all look at what doesn't change, time may change it.
+            all.insert(if is_any_busy { all.len() } else { 0 }, time);
+        }
+        all
+    }
+
+    fn is_time_near(&self, rest: &[Sleeper]) -> bool {
+        let is_near = |sleeper: &Sleeper| !self.vain.contains(sleeper) && sleeper.is_soon();
+        self.is_time_offered && rest.iter().any(is_near)
+    }
+
+    /// Waits until one of those who sleep does something else. A wait that doesn't end is no longer
+    /// offered.
+    fn let_time_pass(&mut self, rest: &[Sleeper]) {
+        let began = Instant::now();
+        while began.elapsed() < SOON + SOON / 5 {
+            thread::sleep(Duration::from_micros(50));
+            match self.look() {
+                Some(now) if now == rest => (),
+                _ => return,
+            }
+        }
+        let timed = rest.iter().filter(|sleeper| sleeper.is_timed());
+        self.vain.extend(timed);
+    }
+
+    /// Whether the run has had so many steps that it goes on without an order.
+    pub(super) fn is_too_long(&mut self) -> bool {
+        self.schedule.was_too_long = self.schedule.steps.len() >= MOST_STEPS;
+        self.schedule.was_too_long
+    }
+}
+
+/// Says who stands. Of many, the first ones are named.
+fn ready(standing: &[Candidate]) -> String {
+    const NAMED: usize = 3;
+    let named = standing.iter().take(NAMED);
+    let named: Vec<_> = named.map(|one| format!("`{}`", one.who)).collect();
+    match standing.len().saturating_sub(NAMED) {
+        0 => named.join(", "),
+        more => format!("{} and {more} more", named.join(", ")),
+    }
+}
+
+fn candidate(stand: &Stand) -> Candidate {
+    let what = match &stand.call {
+        None => What::Poll,
+        Some(call) => What::Call {
+            word: call.word.text().to_string(),
+            channel: call.channel,
+            handle: call.handle,
+        },
+    };
+    Candidate {
+        who: stand.who.clone(),
+        what,
+        number: stand.number,
+    }
+}

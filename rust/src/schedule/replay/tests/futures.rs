@@ -1,0 +1,105 @@
+//! Futures that wait before a gate, and polls that are held back there.
+
+use super::{
+    AUDIT, CLERK, JOURNAL, NAMES, PATIENT, call, gate, gate_of, make, make_first, poll, told,
+};
+use crate::channels::turns::Turns;
+use crate::run::word::Word;
+use std::sync::atomic::Ordering;
+use std::task::Context;
+
+#[test]
+#[cfg_attr(target_family = "wasm", ignore = "WebAssembly has no threads")]
+fn a_future_is_pending_until_its_turn_and_woken_by_the_helper() {
+    let gate = gate();
+    let (_, waker, woken) = told();
+    let mut ticket = None;
+    let recv = call(AUDIT, 0, Word::Recv, 1);
+    assert!(!poll(&gate, recv, &mut ticket, &waker));
+    assert!(!poll(&gate, recv, &mut ticket, &waker));
+    assert_eq!(gate.entrance.lock().waiters.len(), 1);
+    make_first(&gate, 1);
+    assert_eq!(woken.recv().unwrap(), "yovanelum-replay");
+    assert!(poll(&gate, recv, &mut ticket, &waker));
+    assert_eq!((ticket, gate.outcome().calls_in_order()), (None, 2));
+}
+
+#[test]
+#[cfg_attr(target_family = "wasm", ignore = "WebAssembly has no threads")]
+fn a_future_that_is_dropped_leaves_the_gate() {
+    let gate = gate();
+    let (dropped, waker, _woken) = told();
+    let mut ticket = None;
+    let recv = call(AUDIT, 0, Word::Recv, 1);
+    assert!(!poll(&gate, recv, &mut ticket, &waker));
+    gate.leave(ticket.take().unwrap());
+    assert!(gate.entrance.lock().waiters.is_empty());
+    make_first(&gate, 5);
+    // The end wakes each task that was seen, and this may be one that goes on.
+    assert_eq!(dropped.wakes.load(Ordering::SeqCst), 0);
+    make(&gate, call(CLERK, 0, Word::Drop, 0));
+    assert!(gate.outcome().is_in_order());
+}
+
+#[test]
+#[cfg_attr(target_family = "wasm", ignore = "WebAssembly has no threads")]
+fn the_end_wakes_futures_that_the_journal_does_not_have() {
+    let gate = gate();
+    let (_, waker, woken) = told();
+    let mut ticket = None;
+    let recv = call(CLERK, 0, Word::Recv, 5);
+    assert!(!poll(&gate, recv, &mut ticket, &waker));
+    make_first(&gate, 6);
+    assert_eq!(woken.recv().unwrap(), "yovanelum-replay");
+    assert!(poll(&gate, recv, &mut ticket, &waker));
+    assert!(gate.outcome().is_in_order());
+}
+
+#[test]
+#[cfg_attr(target_family = "wasm", ignore = "WebAssembly has no threads")]
+fn a_poll_is_held_back_until_the_turn_of_its_actor() {
+    let gate = gate();
+    let (_, waker, woken) = told();
+    let context = Context::from_waker(&waker);
+    // The next call of the audit may wait, so its future waits by itself. The clerk's turn has
+    // come.
+    assert!(!gate.holds("audit", None, &context) && !gate.holds("clerk", None, &context));
+    assert!(!gate.holds("somebody else", None, &context));
+    make_first(&gate, 1);
+    assert!(gate.holds("clerk", None, &context) && gate.holds("clerk", None, &context));
+    make(&gate, call(AUDIT, 0, Word::Recv, 1));
+    assert_eq!(woken.recv().unwrap(), "yovanelum-replay");
+    assert!(!gate.holds("clerk", None, &context) && gate.holds("audit", None, &context));
+    make(&gate, call(CLERK, 1, Word::Modify, 0));
+    // The turn is that of one without a name, who doesn't come for a while. Then the others are
+    // polled.
+    assert_eq!(woken.recv().unwrap(), "yovanelum-replay");
+    assert!(!gate.holds("audit", None, &context));
+}
+
+#[test]
+#[cfg_attr(target_family = "wasm", ignore = "WebAssembly has no threads")]
+fn a_future_that_was_dropped_is_not_polled_at_the_turn_of_its_drop() {
+    let names = NAMES.replace("\"failed\"", "\"cancelled\": {\"0\": [4]}, \"failed\"");
+    let gate = gate_of(JOURNAL, &names, PATIENT);
+    let (_, waker, _woken) = told();
+    let context = Context::from_waker(&waker);
+    make_first(&gate, 5);
+    assert!(gate.holds("clerk", None, &context));
+    make(&gate, call(CLERK, 0, Word::Drop, 0));
+    assert!(gate.outcome().is_in_order());
+}
+
+#[test]
+#[cfg_attr(target_family = "wasm", ignore = "WebAssembly has no threads")]
+fn a_poll_by_which_that_of_the_turn_is_made_is_not_held_back() {
+    let gate = gate();
+    let (_, waker, _woken) = told();
+    let context = Context::from_waker(&waker);
+    make_first(&gate, 1);
+    // The turn is the audit's, whose future the clerk's polls.
+    assert!(!gate.holds("audit", Some("clerk"), &context));
+    assert!(!gate.holds("clerk", None, &context));
+    assert!(!gate.holds("audit", None, &context));
+    assert!(gate.holds("clerk", None, &context));
+}

@@ -1,0 +1,20 @@
+//! The program `ttd` as a library, so that tests call it in their own process. It promises no API.
+//!
+//! `source` is the proved source with its contracts as comments. `shim` replaces Rattle's std by
+//! Rust's, and the kit's ports by the crates that they are ports of.
+
+#[path = "../../src/core/large_pages.rs"]
+mod large_pages;
+// It has what the sources call and no more.
+#[allow(clippy::new_without_default)]
+#[doc(hidden)]
+pub mod shim;
+#[doc(hidden)]
+#[rustfmt::skip]
+#[path = "../../src/core/source/program.rs"]
+pub mod source;
+
+/// Runs the program on the process's words, files and streams, and returns its exit status.
+pub fn run() -> u8 {
+    source::rw_program::run(&shim::rt::HostRuntime, &mut std::io::stderr())
+}
