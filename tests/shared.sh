@@ -3,7 +3,10 @@
 # Tests write only into one folder, out/ or the one that the variable YOVANELUM_OUT names, so that the checkout may be read-only. `work` is
 # a folder in it that is removed at the script's end: some tests leave links or sources there, with which `rt ci` refuses a checkout.
 out=${YOVANELUM_OUT:-$top/out}
-mkdir -p "$out" && out=$(cd "$out" && pwd) && work=$(mktemp -d "$out/work.XXXXXX") || { echo "the tests can't write into $out"; exit 70; }
+if ! { mkdir -p "$out" && out=$(cd "$out" && pwd) && work=$(mktemp -d "$out/work.XXXXXX"); }; then
+  echo "the tests can't write into $out"
+  exit 70
+fi
 trap 'rm -rf "$work"' EXIT
 export YOVANELUM_OUT=$out TMPDIR=$work PYTHONDONTWRITEBYTECODE=1
 # What cargo keeps to build an edited crate again takes half of a target folder, and debug info, which no test reads, two fifths of the time that
@@ -39,6 +42,12 @@ tell_spent() {
   [ -n "${YOVANELUM_TIMES-}" ] || return 0
   read_spent
   printf '%6d.%02d %s: %s\n' $(((spent - since) / 100)) $(((spent - since) % 100)) "${0#"$top/"}" "$*" >>"$YOVANELUM_TIMES"
+}
+
+# Adds the tests that passed, as cargo says of each program in this text.
+add_passed() {
+  local number
+  while read -r number; do passed=$((passed + number)); done < <(sed -n 's/^test result: .* \([0-9]*\) passed; .*/\1/p' <<<"$1")
 }
 
 # Counts a failure, and prints what failed.
@@ -84,6 +93,8 @@ each() {
   while IFS= read -r line; do
     number=$((number + 1))
     while [ "$(jobs -rp | wc -l)" -ge "${lanes:-$(nproc)}" ]; do wait -n; done
+    # Each counts for itself, and writes its counts into a file.
+    # shellcheck disable=SC2030
     {
       passed=0 failed=0 skipped=0
       "$@" "$line" >"$counts/$number.said" </dev/null
@@ -92,6 +103,7 @@ each() {
     } &
   done
   wait
+  # shellcheck disable=SC2031 # These counts are read from the files.
   for ((; number > 0; number--)); do
     counted='0 1 0'
     [ ! -f "$counts/$number" ] || counted=$(<"$counts/$number")
@@ -119,6 +131,7 @@ install_packages() {
 }
 
 # Installs the packages of a command that is missing, if that is allowed. If not, `missing` has the message about it.
+# shellcheck disable=SC2034 # Callers read it.
 install_tool() {
   local command=$1
   shift
@@ -147,6 +160,7 @@ make_crates() {
 }
 
 # Has cargo build the program, not optimised, where its package's tests have it too, and sets `built` to its path.
+# shellcheck disable=SC2034 # Callers read it.
 build_program() {
   local crates
   built=$out/ttd/debug/ttd
@@ -155,6 +169,7 @@ build_program() {
 }
 
 # Has cargo install the program, as users do but for the number of parts in which it is optimised, and sets `installed` to its path.
+# shellcheck disable=SC2034 # Callers read it.
 install_program() {
   local crates
   installed=$out/program/bin/ttd

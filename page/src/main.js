@@ -107,6 +107,12 @@ function openAtFirst(opener, comparing) {
   if (runInHistory() !== null) openInHistory(opener, comparing).catch(tellFault);
 }
 
+// Calls a function once the browser has read the page's file.
+function onceRead(call) {
+  if (document.readyState === "loading") document.addEventListener("DOMContentLoaded", call);
+  else call();
+}
+
 // The debugger starts while the browser still reads the run, which is after this script in the page's file.
 function start() {
   byId("key-list").replaceChildren(...keyRows());
@@ -120,7 +126,7 @@ function start() {
   const comparing = new Comparing(page, () => new Client(workerText(), moduleBytes), source => opener.keep(source));
   listen(opener, new WayIn(page, opener, comparing), comparing);
   window.ttd = answersOf(client);
-  document.addEventListener("DOMContentLoaded", () => openAtFirst(opener, comparing));
+  onceRead(() => openAtFirst(opener, comparing));
 }
 
 start();

@@ -13,6 +13,9 @@ import tempfile
 PATIENCE = 150
 WAIT = 60
 
+# That the page's script runs: it lists the keys first.
+HAS_BEGUN = "document.getElementById('key-list')?.childElementCount !== 0"
+
 
 class BrowserFault(Exception):
     """The error that the browser returned in place of a result."""
@@ -116,6 +119,7 @@ class Tab:
         self.browser.event("Page.loadEventFired", self.session)
         self.call("Page.navigate", url=f"file://{path}" + ("" if place is None else f"#call={place}"))
         self.browser.event("Page.loadEventFired", self.session)
+        self.wait(HAS_BEGUN)
 
     def run(self, script):
         """The value of an expression in the page. If it is a promise, its result is waited for."""

@@ -2,6 +2,8 @@
 import json
 import time
 
+from browser import HAS_BEGUN
+
 # How many seconds an answer and a condition are waited for.
 PATIENCE = 60
 
@@ -12,6 +14,7 @@ class Driver:
     def load(self, path, place=None):
         self.go("about:blank")
         self.go(f"file://{path}" + ("" if place is None else f"#call={place}"))
+        self.wait(HAS_BEGUN)
 
     def wait(self, condition, seconds=PATIENCE):
         end = time.monotonic() + seconds

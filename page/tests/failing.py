@@ -104,6 +104,17 @@ WANTED = {
           ' call 4 jobs.send("job 2") the_log_is_read {a job is sent} overwrote "job 1", which idle had not read',
           " the panic held, never read the_log_is_read {the jobs are counted}", ' lost: "job 1", "job 2", "job 3"']],
         {"0 1": (2, 0), "0 2": (3, 0)}, rest="and 1 more receiver lost 3 values"),
+    "three_jobs_are_left": Wanted(
+        {"three_jobs_are_left"}, ["jobs"], {"0 1": "slow · receiver 1"}, {f"job {number}" for number in range(1, 4)},
+        [("three_jobs_are_left on jobs: send 0 1 → sent 1", "job 1, not read by slow · receiver 1", "a job is left"),
+         ("three_jobs_are_left on jobs: drop 1", "after the test failed: it had lost 2, job 1, job 2", None)],
+        [["`jobs` has one value left that `slow` has not received; two values before that were overwritten (capacity 1)",
+          ' call 3 jobs.send("job 3") three_jobs_are_left {a job is left} the first that is left',
+          " call 4 jobs.len() three_jobs_are_left {the length is asked} returned 1"],
+         ["`slow` lost 2 of 3 values of `jobs` (capacity 1)",
+          ' call 2 jobs.send("job 2") three_jobs_are_left {a job is left} overwrote "job 1", which slow had not read',
+          " the panic held, never read three_jobs_are_left {the length is asked}", ' lost: "job 1", "job 2"']],
+        {"0 1": (2, 0)}, rest="and 1 receiver lost 2 values"),
     "the_orders_are_whole": Wanted(
         {"the_orders_are_whole"}, ["metrics", "orders"], {"0 1": "held · receiver 1", "1 1": "desk · receiver 1"},
         {"order 71", "order 72", "order 73"},
@@ -132,7 +143,8 @@ WANTED = {
     HANGS: Wanted(
         {HANGS, "worker"}, ["state"], {"0 1": "reader · receiver 1"}, {"loading!", "busy!"},
         [(f"{HANGS} on state: send 0 1", "busy!", "the state is busy"), ("worker on state: wait_for 1 → value 1", "busy!", "the worker waits")],
-        [["`state.wait_for` of worker waits: `state` wasn't changed since call 1", " call 2 state.wait_for worker {the worker waits} waits",
+        [["`state.wait_for` of worker waits: `state` wasn't changed since call 1",
+          f' call 1 state.send("busy!") {HANGS} {{the state is busy}} the last change', " call 2 state.wait_for worker {the worker waits} waits",
           f" senders: sender 0 of {{the state is made}} (last used at call 1 by {HANGS})"]],
         waiting=["worker in `state.wait_for` since call 2, {the worker waits}"],
         besides=["`state` has busy! and 1 sender at the end"]),
@@ -147,7 +159,8 @@ WANTED = {
           " call 8 told: lagged 1 audit {an order is received} its last receive: none before", ' lost: "order 71"'],
          ["`first` lost 1 of 3 values of `orders` (capacity 2)",
           ' call 4 orders.send("order 73") task 7 {a task sends} overwrote "order 71", which first had not read',
-          " call 6 told: lagged 1 till {an order is received} its last receive: none before", ' lost: "order 71"'],
+          " call 6 told: lagged 1 till {an order is received} its last receive: none before", ' lost: "order 71"',
+          " late: it isn't polled by a task that is seen"],
          ["`orders` closed, and its receiver has not read that far",
           " call 5 dropped the last sender runtime in failing::the_second_task_gets_the_first_order::{{closure}}", " not that far: `second`"]],
         {"0 1": (1, 1), "0 2": (1, 1)}, rest="and 1 channel closed"),
@@ -161,10 +174,12 @@ WANTED = {
           " a panic unwinds audit {the audit asserts}"],
          ["`audit` lost 1 of 3 values of `orders` (capacity 2)",
           ' call 4 orders.send("order 73") shop {the shop sends} overwrote "order 71", which audit had not read',
-          " call 8 told: lagged 1 audit {the audit is told} its last receive: none before", ' lost: "order 71"'],
+          " call 8 told: lagged 1 audit {the audit is told} its last receive: none before", ' lost: "order 71"',
+          " late: shop sent 3 values in one poll ({the shop sends})<turn>"],
          ["`till` lost 1 of 3 values of `orders` (capacity 2)",
           ' call 4 orders.send("order 73") shop {the shop sends} overwrote "order 71", which till had not read',
-          " call 6 told: lagged 1 till {the till is told} its last receive: none before", ' lost: "order 71"']],
+          " call 6 told: lagged 1 till {the till is told} its last receive: none before", ' lost: "order 71"',
+          " late: shop sent 3 values in one poll ({the shop sends})<turn>"]],
         {"0 1": (1, 1), "0 2": (1, 1)}, rest="and 1 more receiver lost 1 value"),
     "the_notes_are_whole": Wanted(
         {"the_notes_are_whole"}, ["👩‍🚀 orders 🦀"], {"0 1": '<b>desk</b> &amp; "co" · receiver 1'}, {note(1), note(2), note(3)},
@@ -315,6 +330,12 @@ def placed(line):
     return re.sub(r"(?<!\{)\{([a-z ]+)\}", lambda comment: line_of(comment[1]), line)
 
 
+def turn_of(names):
+    """How a line of a burst ends. Which of its threads polls a task is the runtime's choice: where one polled all that were seen, nobody had a turn."""
+    polls = [poll for task in names.get("tasks_seen", {"tasks": []})["tasks"] for poll in task["polls"]]
+    return ", which gives nobody a turn" if len({thread for *_, thread in (poll[:5] for poll in polls)}) == 1 else ""
+
+
 def lines_of(account):
     """The lines in which an account is printed, without those of rustc's form that have places alone."""
     told = account["facts"][:account["rest"]["after"]]
@@ -322,7 +343,8 @@ def lines_of(account):
     lines += [f"yovanelum: not all is known: {'; '.join(account['unknown'])}"] if account["unknown"] else []
     lines += [f"failed: {account['failed']['text']}"] if account["failed"] else []
     for level, fact in zip(["error", "warning", "warning"], told):
-        level = "warning" if fact["order"] >= 12 and fact["kind"] != "loss" else level
+        is_usual = fact["order"] >= 12 and fact["kind"] != "loss" or account["failed"] and fact["kind"] == "wait"
+        level = "note" if fact["order"] >= 15 else "warning" if is_usual else level
         lines += [f"{level}: {fact['text'][0]}", *fact["text"][1:]]
     lines += [account["rest"]["text"]] if account["rest"]["text"] else []
     lines += [f"yovanelum: {account['nothing']}"] if account["nothing"] else []
@@ -346,12 +368,13 @@ def check_account(name, page):
     wanted = WANTED[name]
     account = json.loads(why(page, "--json"))
     with open(beside(page, ".names"), encoding="utf-8") as file:
-        assert json.load(file)["account"] == account
+        names = json.load(file)
+    assert names["account"] == account
     check_printed(why(page).split("\nlook: ")[0].split("\n"), account)
     if name != HANGS:
         check_printed(report_of(name), account)
     found = [[untimed(line) for line in fact["text"]] for fact in account["facts"]]
-    assert found == [[placed(line) for line in fact] for fact in wanted.account], found
+    assert found == [[placed(line).replace("<turn>", turn_of(names)) for line in fact] for fact in wanted.account], found
     rest = (account["unknown"], account["rest"]["text"], account["nothing"], [it["text"] for it in account["waiting"]])
     assert rest == (wanted.unknown, wanted.rest, wanted.nothing, [placed(line) for line in wanted.waiting]), rest
     return account
@@ -471,7 +494,9 @@ def check_page(tab, name):
     """The page that is open shows names, texts, places in the sources and losses of this test."""
     wanted = WANTED[name]
     assert tab.text("notice") == "", tab.text("notice")
-    assert "isn't" not in tab.run("document.body.innerText"), tab.run("document.body.innerText")
+    # A fact may say why a receiver was late: that its task isn't seen.
+    shown = "\n".join(line for line in tab.run("document.body.innerText").split("\n") if not line.startswith("  late: "))
+    assert "isn't" not in shown, shown
     besides = tab.run("[...document.querySelectorAll('#answer .then')].map(it => it.textContent.trim())")
     assert besides == wanted.besides, besides
     actors = tab.run(ACTORS)
@@ -551,12 +576,15 @@ def ends_of_tests(tab, folder, journals):
     assert count > 5, count
 
 
-# What someone asks who has never seen the page, of five runs that failed for five reasons, and the words that answer it.
+# What someone asks who has never seen the page, of six runs that failed for six reasons, and the words that answer it.
 QUESTIONS = {
     "no_price_is_missing": ("Which prices did the auditor never get, whose send overwrote the first of them, and where was it told?", [
         'lost: "101 EUR", "102 EUR", "103 EUR"', 'call 3 prices.send("103 EUR") ticker {a price is sent}', "call 7 told: lagged 3", "{the auditor is told}"]),
     "the_log_is_read": ("Why did the log read fewer jobs than were sent, although it was never told?", [
         'lost: "job 2", "job 3"', 'call 5 jobs.send("job 3")', "{a job is sent}", "call 7 dropped: never told"]),
+    "three_jobs_are_left": ("Why is one job left, where three were sent and nobody received any?", [
+        "two values before that were overwritten (capacity 1)", 'call 3 jobs.send("job 3")', "{a job is left}", "call 4 jobs.len()",
+        "{the length is asked}", "returned 1"]),
     "each_state_is_seen": ("Which states did the screen never look at, and what did it see in their place?", [
         "not looked at: ready!, busy!", 'its last look: "full!"', "call 4 state.borrow() screen {the state is looked at}"]),
     "the_sum_is_right": ("Was a number lost on the bus, or is it the test that is wrong?", [
@@ -568,12 +596,12 @@ QUESTIONS = {
 # The texts of the answer that are in sight.
 IN_SIGHT = """[...document.querySelectorAll('#answer :is(.line, .then, p)')].filter(line => {
     const box = line.getBoundingClientRect(), outer = document.getElementById('answer-box').getBoundingClientRect();
-    return box.height > 0 && box.top >= 0 && box.bottom <= Math.min(innerHeight, outer.bottom + 1);
+    return line.checkVisibility() && box.height > 0 && box.top >= 0 && box.bottom <= Math.min(innerHeight, outer.bottom + 1);
 }).map(line => line.textContent.replace(/\\s+/g, ' ').trim()).join(' ')"""
 
 
 def answers_in_sight(tab, folder, journals):
-    """Each of five questions is answered by what is in sight when the page opens, without a click, on a desk and on a phone, in light and dark."""
+    """Each of six questions is answered by what is in sight when the page opens, without a click, on a desk and on a phone, in light and dark."""
     for name, (question, words) in QUESTIONS.items():
         page, place = addresses()[name]
         for width, height in ((1440, 920), (390, 844)):

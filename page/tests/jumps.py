@@ -9,7 +9,6 @@ import found
 import opening
 import real_runs
 from hands import GUTTER, MARGIN, column_x, places_in_view
-from opening import check_place
 
 # Keeps what is written to the clipboard, as a browser does that allows it.
 CLIPBOARD = "Object.defineProperty(navigator, 'clipboard', { value: { writeText: async text => { window.copied = text; } } })"

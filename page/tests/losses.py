@@ -7,8 +7,7 @@ import native
 import opening
 import real_runs
 from hands import GUTTER, MARGIN, column_x
-from opening import check_place
-from rows import SIZES, boxes, drawn, page_of
+from rows import boxes, drawn, page_of
 
 # The long run: handle 2 is made at 50,001. Of its 49 sends at 50,002, 50,004 and so on, 4 stay, so that the fifth is the first that overwrites.
 SILENT = found.Loss(0, 2, 50_010, 45, "dropped", 50_100)

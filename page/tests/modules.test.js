@@ -7,7 +7,7 @@ import { fileURLToPath } from "node:url";
 
 const SOURCES = fileURLToPath(new URL("../src", import.meta.url));
 
-// A folder imports only itself and those before it. What is at the top, `main.js` and `worker.js`, imports all.
+// A folder imports only itself and those before it. What is at the top, `loader.js`, `main.js` and `worker.js`, imports all.
 const FOLDERS = ["base", "run", "worker", "draw", "findings", "share", "input", "open", "."];
 
 const modules = readdirSync(SOURCES, { recursive: true }).map(String).filter(name => name.endsWith(".js")).sort();
@@ -48,14 +48,14 @@ test("modules don't depend on each other in a circle", () => {
   for (const name of modules) visit(name, []);
 });
 
-test("each module is imported by the page or by its worker", () => {
+test("each module is imported by the page, its loader or its worker", () => {
   const reached = new Set();
   const visit = name => {
     if (reached.has(name)) return;
     reached.add(name);
     imports.get(name).forEach(visit);
   };
-  ["main.js", "worker.js"].forEach(visit);
+  ["loader.js", "main.js", "worker.js"].forEach(visit);
   assert.deepStrictEqual(modules.filter(name => !reached.has(name)), []);
 });
 

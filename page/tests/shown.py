@@ -10,6 +10,9 @@ from opening import check_place
 
 HOSTILE = ["<img src=x onerror=alert(1)>", "</script><script>alert(2)</script>", "\" onmouseover=\"alert(3)", "javascript:alert(4)", "__proto__",
            "a" * 400]
+MARKUP = "[document.querySelectorAll('img').length, document.querySelectorAll('script').length, window.alerted ?? false]"
+# The scripts of a page without names: those of its file, one of which is its run, and the one that its loader unpacks.
+OWN_SCRIPTS = 7 + 1
 ALERTED = "void (window.alert = () => { window.alerted = true; })"
 
 
@@ -87,7 +90,7 @@ def hostile_names(tab, folder, journals):
     for _ in range(3):
         tab.key("l")
     tab.run("new Promise(done => setTimeout(done, 100))")
-    assert tab.run("[document.querySelectorAll('img').length, document.querySelectorAll('script').length, window.alerted ?? false]") == [0, 7, False]
+    assert tab.run(MARKUP) == [0, 1 + OWN_SCRIPTS, False]
 
 
 def refused_markup(tab, folder, journals):
@@ -96,7 +99,7 @@ def refused_markup(tab, folder, journals):
     tab.run(ALERTED)
     tab.wait("!document.getElementById('refusal').hidden")
     assert "</script><script>alert(2)</script>" in tab.text("refusal")
-    assert tab.run("[document.querySelectorAll('img').length, document.querySelectorAll('script').length, window.alerted ?? false]") == [0, 6, False]
+    assert tab.run(MARKUP) == [0, OWN_SCRIPTS, False]
 
 
 def wrong_names(tab, folder, journals):
@@ -124,8 +127,8 @@ def spoken(tab, folder, journals):
 
 
 def nothing_is_loaded(tab, folder, journals):
-    """The page loads nothing: all that it needs is in its file, of less than 450,000 bytes."""
-    assert os.path.getsize(native.PAGE) < 450_000
+    """The page loads nothing: all that it needs is in its file, of less than 400,000 bytes."""
+    assert os.path.getsize(native.PAGE) < 400_000
     opening.load(tab, opening.page_of(folder, "alone.journal", journals[63]))
     loaded = tab.run("performance.getEntriesByType('resource').map(it => it.name).filter(it => !it.startsWith('blob:'))")
     assert loaded == [], loaded

@@ -76,7 +76,7 @@ def calls_that_waited(tab, folder, journals):
 def wrong_sources(tab, folder, journals):
     """Names of a later version, of another shape, or with another number of calls are reported, and the run is shown by its numbers."""
     wrong = {
-        "isn't read: it has version 5, and this page reads versions up to 4.": {"version": 5, "calls": 1},
+        "isn't read: it has version 6, and this page reads versions up to 5.": {"version": 6, "calls": 1},
         'isn\'t read: its key "account" has no "facts" with "text" and "places".': {"account": {"version": 1, "unknown": [], "facts": [{"kind": "loss"}]}},
         "isn't read: its version is no number.": {"version": "2.0"}, "isn't read: its tasks are no": {"tasks": {"1": None}},
         "isn't read: its locations are no": {"locations": [["a", 1]]}, "isn't read: its calls are no": {"calls": {"0": ["x"]}},

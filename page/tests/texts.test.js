@@ -57,8 +57,9 @@ test("names are read, and refused with a reason", () => {
   assert.deepStrictEqual([names.actor(0), names.actor(1), names.handle(1, 2), names.handle(0, 2), names.ending.hasFailed],
     ["a⟨U+202E⟩b", "actor 1", "audit", undefined, true]);
   assert.strictEqual(new Names().channel(4), "channel 4");
+  assert.strictEqual(readNames('{"version": 5, "actors": {"0": "audit"}, "tasks_seen": {"times": true, "now": 7, "places": [], "tasks": []}}').actor(0), "audit");
   for (const [text, fault] of [
-    ["[]", /no object/], ['{"version": 5}', /version 5/], ['{"x": 1}', /none of the keys/], ['{"actors": {"0": 1}}', /actors are no names/],
+    ["[]", /no object/], ['{"version": 6}', /version 6/], ['{"x": 1}', /none of the keys/], ['{"actors": {"0": 1}}', /actors are no names/],
     ['{"values": {"0": {"1": 2}}}', /values are no texts/], ['{"window": {"reason": "x", "at": null, "lead": -1, "channels": {}}}', /window has no/],
     ['{"times": [[1, 2]]}', /times are no lists/],
   ]) assert.throws(() => readNames(text), fault);

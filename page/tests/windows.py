@@ -135,7 +135,6 @@ def window_of(journal, cut, names, trigger="call", reason="asked for", every=16)
         body.append(" ".join([str(CLOCK + place), str(it.actor), str(it.channel), it.word, str(known[it.handle]), *it.args, "=", reply]))
         places.append(place)
         calls[str(it.channel)].append(place % len(names["locations"]) if names.get("locations") else None)
-    dump = CLOCK + len(entries)
     made = {
         "version": 4, **names, "calls": calls if names.get("locations") else {},
         "window": {

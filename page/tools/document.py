@@ -4,6 +4,7 @@ import hashlib
 import os
 import re
 import subprocess
+import tempfile
 import zlib
 
 # Names and statements stay as they are, so that a browser's tools, which lay them out again, show what can be read.
@@ -19,14 +20,19 @@ def read(*path):
         return file.read()
 
 
+def tool(words, folder, use, refusal):
+    """What a program of Debian's writes, or why it doesn't."""
+    try:
+        return subprocess.run(words, cwd=folder, stdout=subprocess.PIPE, check=True).stdout
+    except FileNotFoundError:
+        raise Refused(f"{words[0]} isn't there, which {use}: apt-get install {words[0]}") from None
+    except subprocess.CalledProcessError:
+        raise Refused(refusal) from None
+
+
 def bundled(folder, name, *words):
     """What esbuild makes of a file in this folder, so that no path from outside is in it."""
-    try:
-        return subprocess.run(["esbuild", name, *words], cwd=folder, stdout=subprocess.PIPE, check=True).stdout.decode()
-    except FileNotFoundError:
-        raise Refused("esbuild isn't there, which bundles the page's scripts: apt-get install esbuild") from None
-    except subprocess.CalledProcessError:
-        raise Refused(f"{name} and what it imports can't be bundled") from None
+    return tool(["esbuild", name, *words], folder, "bundles the page's scripts", f"{name} and what it imports can't be bundled").decode()
 
 
 def script(folder, name):
@@ -41,9 +47,13 @@ def hash_of(text):
     return base64.b64encode(hashlib.sha256(text.encode()).digest()).decode()
 
 
-def packed(module):
-    """The module as the page has it: packed, since that is a third of its bytes, and as text."""
-    return base64.b64encode(zlib.compress(module, 9)).decode()
+def packed(part):
+    """The bytes of a part as the page has them: packed, since that is a third of them, and as text. What zopfli packs, zlib unpacks, and is a twentieth
+    smaller than what zlib packs."""
+    with tempfile.TemporaryDirectory() as folder:
+        with open(f"{folder}/part", "wb") as file:
+            file.write(part)
+        return base64.b64encode(tool(["zopfli", "--zlib", "-c", "part"], folder, "packs parts of the page", "a part can't be packed")).decode()
 
 
 def module_of(made):
@@ -55,9 +65,10 @@ def module_of(made):
 def page(folder, module):
     source = os.path.join(folder, "src")
     style = bundled(source, "style.css", "--charset=utf8", "--minify-whitespace", "--log-level=warning")
-    main = script(source, "main")
+    main, loader = script(source, "main"), script(source, "loader")
     parts = {
-        "style": style, "style hash": hash_of(style), "main": main, "main hash": hash_of(main),
+        "style": style, "style hash": hash_of(style), "loader": loader, "loader hash": hash_of(loader),
+        "packed main": packed(main.encode()), "main hash": hash_of(main),
         "worker": script(source, "worker"), "module": packed(module),
         "example": read(folder, "..", "examples", "price_feed.ttd"),
         "example names": read(folder, "..", "examples", "price_feed.names"),

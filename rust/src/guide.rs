@@ -2,10 +2,12 @@
 //!
 //! | Page | What it says |
 //! |---|---|
+//! | [`command`] | `cargo yovanelum test`: no edit |
 //! | [`start`] | add the crate, record a failing test, walk to a call |
 //! | [`swap`] | a patch of tokio, an alias module, or one `use` |
 //! | [`tasks`] | which channels and calls a recorder records, and who makes them |
 //! | [`report`] | what a failing test prints and writes |
+//! | [`late`] | why a receiver was late: what its task did meanwhile |
 //! | [`replay`] | make the calls of a failing run again, in their order |
 //! | [`explore`] | look for an order that fails; loom and shuttle beside it |
 //! | [`service`] | lags, closed channels and health of a running service |
@@ -15,8 +17,16 @@
 //! | [`platforms`] | where it runs, and where its tests ran |
 //! | [`proofs`] | what is proved, tested and trusted |
 
+#[doc = include_str!("guide/command.md")]
+///
+/// [`guide::replay`]: crate::guide::replay
+/// [`guide::explore`]: crate::guide::explore
+/// [`ForTest::save_on_err`]: crate::ForTest::save_on_err
+pub mod command {}
+
 #[doc = include_str!("guide/start.md")]
 ///
+/// [`guide::command`]: crate::guide::command
 /// [`guide::swap`]: crate::guide::swap
 /// [`guide::report`]: crate::guide::report
 /// [`guide::replay`]: crate::guide::replay
@@ -27,6 +37,7 @@ pub mod start {}
 
 #[doc = include_str!("guide/swap.md")]
 ///
+/// [`guide::command`]: crate::guide::command
 /// [`guide::tasks`]: crate::guide::tasks
 pub mod swap {}
 
@@ -59,6 +70,12 @@ pub mod tasks {}
 /// [`Recorder::cut_texts_at`]: crate::Recorder::cut_texts_at
 /// [`debugger::Walk`]: crate::debugger::Walk
 pub mod report {}
+
+#[doc = include_str!("guide/late.md")]
+///
+/// [`guide::swap`]: crate::guide::swap
+/// [`named`]: crate::named()
+pub mod late {}
 
 #[doc = include_str!("guide/replay.md")]
 ///

@@ -89,30 +89,72 @@ mod temporary;
 // The proved source names its crates and Rattle's std by these.
 use crate::core::{shim, source};
 
-pub use channels::actors::{Named, named, set_task_id};
+// Each item has this short path, and its page is in one of the two modules below, so that the front
+// page has few.
 #[doc(hidden)]
-pub use channels::actors::{SpawnedTask, blocking_task, spawned_task};
+pub use channels::actors::{Named, SpawnedTask, blocking_task, named, set_task_id, spawned_task};
+#[doc(hidden)]
 pub use channels::block_on::block_on;
 #[doc(hidden)]
 pub use channels::budget::{budgeted, set_budget};
+#[doc(hidden)]
 pub use channels::events::{Close, Lag, on_close, on_lag};
+#[doc(hidden)]
 pub use channels::polled::Polled;
+#[doc(hidden)]
 pub use channels::recorder::{
     Dump, Dumps, Entered, Handle, Installed, Recorder, Scoped, Waiting, follow_this_thread,
 };
+#[doc(hidden)]
 pub use channels::snapshot::{ChannelSnapshot, ReceiverSnapshot, Snapshot, snapshot};
 #[doc(hidden)]
 pub use channels::turns::is_thread_held;
+#[doc(hidden)]
+pub use channels::whereabouts::{BlockedTask, set_clock};
 pub use channels::{broadcast, watch};
+#[doc(hidden)]
+pub use harness::automatic::{BlockedOn, record_tests};
+#[doc(hidden)]
 pub use harness::flight::DumpTo;
+#[doc(hidden)]
 pub use harness::for_test::{ForTest, SaveOnPanic};
 #[doc(hidden)]
 pub use harness::given;
 #[doc(hidden)]
 pub use harness::program::set_patch;
+#[doc(hidden)]
 pub use run::command::command;
 pub use run::debugger;
+#[doc(hidden)]
+pub use run::names::{Json, read_json};
+#[doc(hidden)]
 pub use schedule::replay::Replayed;
+
+/// The recorder, what it returns, and who calls: tasks and their names.
+///
+/// Each item is also at the crate's root, as `yovanelum::Recorder`.
+pub mod recorder {
+    pub use crate::channels::actors::{Named, named, set_task_id};
+    pub use crate::channels::block_on::block_on;
+    pub use crate::channels::polled::Polled;
+    pub use crate::channels::recorder::{
+        Dump, Dumps, Entered, Handle, Installed, Recorder, Scoped, Waiting, follow_this_thread,
+    };
+    pub use crate::harness::flight::DumpTo;
+    pub use crate::harness::for_test::{ForTest, SaveOnPanic};
+    pub use crate::run::command::command;
+    pub use crate::schedule::replay::Replayed;
+    #[doc(inline)]
+    pub use crate::{name, show};
+}
+
+/// Events and snapshots of a running service's channels: who lags, and how far each receiver is.
+///
+/// Each item is also at the crate's root, as `yovanelum::on_lag`.
+pub mod service {
+    pub use crate::channels::events::{Close, Lag, on_close, on_lag};
+    pub use crate::channels::snapshot::{ChannelSnapshot, ReceiverSnapshot, Snapshot, snapshot};
+}
 
 // Runs the programs of the README.
 #[cfg(doctest)]

@@ -5,6 +5,7 @@ mod support;
 use std::fs;
 use std::path::{Path, PathBuf};
 use std::process::{Command, Stdio};
+use support::console;
 use support::named::checksum;
 use support::parts::{Folder, address};
 
@@ -170,7 +171,7 @@ fn in_a_workflow_the_lines_have_commands() {
 }
 
 /// What `why --sarif` prints of a run with one loss, with the properties that SARIF 2.1.0 requires.
-const SARIF: &str = r#"{"$schema": "https://docs.oasis-open.org/sarif/sarif/v2.1.0/errata01/os/schemas/sarif-schema-2.1.0.json", "version": "2.1.0", "runs": [{"tool": {"driver": {"name": "yovanelum", "version": "0.1.0", "rules": [{"id": "failure", "shortDescription": {"text": "A test failed."}}, {"id": "waiting", "shortDescription": {"text": "A call on a channel waits."}}, {"id": "panic", "shortDescription": {"text": "Another thread or task panicked before the failure."}}, {"id": "loss", "shortDescription": {"text": "A receiver lost values of a broadcast channel."}}, {"id": "wait", "shortDescription": {"text": "A call waits that the failure came of."}}, {"id": "dropped", "shortDescription": {"text": "A call waited, and was dropped before it completed."}}, {"id": "empty", "shortDescription": {"text": "A receive found nothing."}}, {"id": "value", "shortDescription": {"text": "A receive returned this value."}}, {"id": "unreached", "shortDescription": {"text": "A send reached nobody."}}, {"id": "unlearned", "shortDescription": {"text": "A receiver never learned of changes of a watch channel."}}, {"id": "unmarked", "shortDescription": {"text": "A receiver never marked changes of a watch channel as seen."}}, {"id": "closing", "shortDescription": {"text": "A channel closed while it had receivers."}}]}}, "columnKind": "unicodeCodePoints", "originalUriBaseIds": {"SRCROOT": {"uri": "file:///repo/bus/"}}, "invocations": [{"executionSuccessful": true, "toolExecutionNotifications": [{"level": "warning", "message": {"text": "not all is known: 1 channel left the run for later ones"}}]}], "results": [{"ruleId": "loss", "ruleIndex": 3, "level": "error", "message": {"text": "`audit` lost 1 of 2 values of `orders` (capacity 1)\n  call 2   orders.send(value 1)   actor 0  src/a b.rs:9   overwrote value 0, which audit had not read\n  call 3   told: lagged 1         audit                   its last receive: none before\n  lost: value 0"}, "locations": [{"physicalLocation": {"artifactLocation": {"uri": "src/a%20b.rs", "uriBaseId": "SRCROOT"}, "region": {"startLine": 9, "startColumn": 5}}}], "codeFlows": [{"threadFlows": [{"locations": [{"executionOrder": 1, "location": {"physicalLocation": {"artifactLocation": {"uri": "src/a%20b.rs", "uriBaseId": "SRCROOT"}, "region": {"startLine": 9, "startColumn": 5}}, "message": {"text": "call 2   orders.send(value 1)   actor 0  src/a b.rs:9   overwrote value 0, which audit had not read"}}}, {"executionOrder": 2, "location": {"message": {"text": "call 3   told: lagged 1         audit                   its last receive: none before"}}}]}]}]}]}]}
+const SARIF: &str = r#"{"$schema": "https://docs.oasis-open.org/sarif/sarif/v2.1.0/errata01/os/schemas/sarif-schema-2.1.0.json", "version": "2.1.0", "runs": [{"tool": {"driver": {"name": "yovanelum", "version": "0.1.0", "rules": [{"id": "failure", "shortDescription": {"text": "A test failed."}}, {"id": "waiting", "shortDescription": {"text": "A call on a channel waits."}}, {"id": "panic", "shortDescription": {"text": "Another thread or task panicked before the failure."}}, {"id": "loss", "shortDescription": {"text": "A receiver lost values of a broadcast channel."}}, {"id": "wait", "shortDescription": {"text": "A call waits that the failure came of."}}, {"id": "dropped", "shortDescription": {"text": "A call waited, and was dropped before it completed."}}, {"id": "empty", "shortDescription": {"text": "A receive found nothing."}}, {"id": "value", "shortDescription": {"text": "A receive returned this value."}}, {"id": "asked", "shortDescription": {"text": "A call was answered so."}}, {"id": "unreached", "shortDescription": {"text": "A send reached nobody."}}, {"id": "unlearned", "shortDescription": {"text": "A receiver never learned of changes of a watch channel."}}, {"id": "unmarked", "shortDescription": {"text": "A receiver never marked changes of a watch channel as seen."}}, {"id": "closing", "shortDescription": {"text": "A channel closed while it had receivers."}}]}}, "columnKind": "unicodeCodePoints", "originalUriBaseIds": {"SRCROOT": {"uri": "file:///repo/bus/"}}, "invocations": [{"executionSuccessful": true, "toolExecutionNotifications": [{"level": "warning", "message": {"text": "not all is known: 1 channel left the run for later ones"}}]}], "results": [{"ruleId": "loss", "ruleIndex": 3, "level": "error", "message": {"text": "`audit` lost 1 of 2 values of `orders` (capacity 1)\n  call 2   orders.send(value 1)   actor 0  src/a b.rs:9   overwrote value 0, which audit had not read\n  call 3   told: lagged 1         audit                   its last receive: none before\n  lost: value 0"}, "locations": [{"physicalLocation": {"artifactLocation": {"uri": "src/a%20b.rs", "uriBaseId": "SRCROOT"}, "region": {"startLine": 9, "startColumn": 5}}}], "codeFlows": [{"threadFlows": [{"locations": [{"executionOrder": 1, "location": {"physicalLocation": {"artifactLocation": {"uri": "src/a%20b.rs", "uriBaseId": "SRCROOT"}, "region": {"startLine": 9, "startColumn": 5}}, "message": {"text": "call 2   orders.send(value 1)   actor 0  src/a b.rs:9   overwrote value 0, which audit had not read"}}}, {"executionOrder": 2, "location": {"message": {"text": "call 3   told: lagged 1         audit                   its last receive: none before"}}}]}]}]}]}]}
 "#;
 
 #[test]
@@ -265,9 +266,9 @@ fn a_journal_of_another_name_keeps_its_file() {
     assert_eq!(kept, JOURNAL);
 }
 
-/// Returns what `ttd check` writes, if the variable `YOVANELUM_TTD` names the program.
+/// Returns what `ttd check` writes, or `None` where no program can be started.
 fn checked(path: &Path) -> Option<String> {
-    let ttd = std::env::var_os("YOVANELUM_TTD")?;
+    let ttd = console::ttd()?;
     let checked = Command::new(ttd).arg("check").arg(path).output().unwrap();
     Some(String::from_utf8(checked.stdout).unwrap())
 }
@@ -423,6 +424,21 @@ the first difference: call 5, `audit` received before the send in the passing ru
     fs::write(folder.0.join("passed.journal"), "ttd-journal 2\n").unwrap();
     let words = ["why", "orders.journal", "--against", "passed.journal"];
     assert_eq!(run(&folder.0, &words).1, "journal fault truncated\n");
+}
+
+#[test]
+fn the_version_is_that_of_the_package_as_cargos_tools_print_theirs() {
+    let folder = Folder::new("version");
+    let manifest = include_str!("../Cargo.toml");
+    let (_, version) = manifest.split_once("\nversion = \"").unwrap();
+    let version = version.split_once('"').unwrap().0;
+    for word in ["--version", "-V"] {
+        let said = run(&folder.0, &[word]);
+        assert_eq!(said, (0, format!("yovanelum {version}\n"), String::new()));
+    }
+    let (status, out, told) = run(&folder.0, &["why", "a", "--version"]);
+    assert_eq!((status, out.as_str()), (2, ""));
+    assert!(told.starts_with("yovanelum: there is no option `--version`\n"));
 }
 
 #[test]

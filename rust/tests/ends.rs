@@ -132,7 +132,7 @@ fn an_error_that_a_test_returns_is_in_its_names() {
     let at = left.after("// The error is passed on here.");
     assert_eq!(
         member(&left.names, "returned"),
-        format!(r#"{{"location": {at}, "since": 2}}"#)
+        format!(r#"{{"text": "Empty", "location": {at}, "since": 2}}"#)
     );
     assert_eq!(member(&left.names, "panics"), "");
 }

@@ -283,7 +283,7 @@ fn a_test_that_returns_an_error_is_told_of() {
         "// The error is passed on here.",
     );
     let wanted = format!(
-        "failed: {test} at tests/failing.rs:{at} returned an error; call 1 was channel 0: try_recv(): Empty
+        "failed: {test} at tests/failing.rs:{at} returned Empty; call 1 was channel 0: try_recv(): Empty
 error: `{test}` found nothing: nothing was sent to channel 0
   --> tests/failing.rs:{at}:32
   call 1   found nothing   {test}  tests/failing.rs:{at}   channel 0: try_recv()
@@ -334,15 +334,20 @@ fn a_second_panic_while_one_unwinds_writes_nothing() {
     let test = "a_second_panic_while_one_unwinds_writes_nothing";
     let folder = Folder::new(test);
     let (succeeds, said) = played(test, &folder);
+    let at = line_after(
+        include_str!("failing.rs"),
+        "let _tests_itself = TestsItself;",
+    );
     let wanted = [
+        // The second panic was caught within the drop.
+        &format!(
+            "failed: {}… at tests/failing.rs:{at}: the first panic",
+            &test[..40]
+        ),
         "yovanelum: no value was lost in 2 calls on 1 channel",
         "look: file://DIR/first.html#call=2",
     ];
-    // The first line has the last panic of the thread.
-    assert_eq!(
-        (succeeds, &said[1..]),
-        (false, &wanted.map(String::from)[..])
-    );
+    assert_eq!((succeeds, said), (false, wanted.map(String::from).into()));
     let files = fs::read_dir(files(&folder.0)).unwrap();
     assert_eq!(files.count(), 3, "journal, names and page of the first");
 }

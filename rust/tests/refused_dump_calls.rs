@@ -103,7 +103,7 @@ impl Try<'_> {
     }
 }
 
-/// Asserts that a dump is whole, and that it is said where older ones weren't removed.
+/// Asserts that a dump is whole, and that its path is said, and where older ones weren't removed.
 fn assert_is_written(journal: &Path, seen: &Seen) {
     assert!(fs::read_to_string(journal).unwrap().ends_with("\nend\n"));
     assert!(
@@ -112,8 +112,11 @@ fn assert_is_written(journal: &Path, seen: &Seen) {
             .ends_with("\n}\n")
     );
     let kept = seen.refused.iter().filter(|call| is_to_remove(call));
-    assert_eq!(seen.said.lines().count(), kept.count(), "{}", seen.said);
-    for line in seen.said.lines() {
+    let is_path = |line: &&str| line.starts_with("yovanelum: a dump is written: ");
+    let (paths, others): (Vec<_>, Vec<_>) = seen.said.lines().partition(is_path);
+    assert_eq!(paths.len(), 1, "{}", seen.said);
+    assert_eq!(others.len(), kept.count(), "{}", seen.said);
+    for line in others {
         assert!(
             line.starts_with("yovanelum: ") && line.contains(" removed: "),
             "{line}"

@@ -5,9 +5,11 @@
 
 mod support;
 
+use std::ffi::OsStr;
 use std::fs;
 use std::path::{Path, PathBuf};
 use std::process::{Command, Output};
+use support::console;
 use support::named::member;
 use support::workspace::{Workspace, in_turn, printed};
 
@@ -97,7 +99,7 @@ fn journal(dumps: &Path) -> PathBuf {
     journal
 }
 
-fn said(program: &str, words: &[&str], file: &Path) -> String {
+fn said(program: impl AsRef<OsStr>, words: &[&str], file: &Path) -> String {
     let run = Command::new(program)
         .args(words)
         .arg(file)
@@ -116,7 +118,7 @@ fn a_lag_leaves_a_dump_that_says_who_lagged_and_where() {
     let wanted = "Lagged(84)\nDumps { written: 1, failed: 0, left_out: 0 }\n";
     assert_eq!(out, wanted, "{}", printed(&run));
     let journal = journal(&dumps);
-    if let Ok(ttd) = std::env::var("YOVANELUM_TTD") {
+    if let Some(ttd) = console::ttd() {
         let checked = said(&ttd, &["check"], &journal);
         let entries: u64 = checked.trim().strip_prefix("ok ").unwrap().parse().unwrap();
         assert!((1_000..2_100).contains(&entries), "{entries}");

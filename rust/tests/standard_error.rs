@@ -3,6 +3,7 @@
 
 mod support;
 
+use std::env;
 use std::fs;
 use std::path::Path;
 use support::parts::{self, Folder, is_part, line_after, our_lines, replay_line};
@@ -178,4 +179,28 @@ fn an_empty_journal_says_what_to_do() {
     for form in ["for_test", "enter", "on_thread_start", "scope", "install"] {
         assert!(line.contains(form), "{form} in {line}");
     }
+}
+
+#[test]
+#[cfg_attr(target_family = "wasm", ignore = "WebAssembly has no threads")]
+fn a_dump_says_where_it_is_written() {
+    let dumps = || env::current_dir().unwrap().join("dumps");
+    if is_part() {
+        let recorder = Recorder::flight(10);
+        let _entered = recorder.enter();
+        recorder.dump_to(dumps());
+        let (orders, _audit) = broadcast::channel(2);
+        orders.send(71).unwrap();
+        let path = recorder.dump("somebody asked").wait().unwrap();
+        assert!(path.starts_with(dumps()));
+        return println!("{}", path.display());
+    }
+    let test = "a_dump_says_where_it_is_written";
+    let folder = Folder::new(test);
+    let (succeeds, said) = played(test, &folder.0, None);
+    let [line] = &said[..] else {
+        panic!("{said:#?}");
+    };
+    let path = line.strip_prefix("yovanelum: a dump is written: ").unwrap();
+    assert!(succeeds && Path::new(path).is_file(), "{line}");
 }

@@ -93,6 +93,43 @@ fn a_test_that_hangs_says_who_waits_and_goes_on() {
     });
 }
 
+/// How many calls the part below has wait.
+const MANY: usize = 13;
+
+#[test]
+fn of_many_calls_that_wait_ten_are_listed() {
+    if is_part() {
+        let recorder = Recorder::for_test("many");
+        let (state, rx) = watch::channel("loading");
+        let waits = |mut rx: watch::Receiver<&'static str>| {
+            move || assert!(block_on(rx.wait_for(|state| *state == "ready")).is_ok())
+        };
+        let workers: Vec<_> = (0..MANY)
+            .map(|_| thread::spawn(waits(rx.clone())))
+            .collect();
+        while recorder.waiting().len() < MANY {
+            thread::yield_now();
+        }
+        let _recorder = recorder.watchdog(Duration::from_millis(1));
+        wait_for_the_end_of_input();
+        state.send("ready").unwrap();
+        workers.into_iter().for_each(|it| it.join().unwrap());
+        return;
+    }
+    in_time(|| {
+        let folder = Folder::new("many");
+        let mut part = piped("of_many_calls_that_wait_ten_are_listed", &folder);
+        let said = read_lines(&mut part, 13);
+        let waits = said
+            .iter()
+            .filter(|line| line.contains(": still waiting: "));
+        assert_eq!(waits.count(), 10, "{said:#?}");
+        assert_eq!(said[11], format!("yovanelum: and {} more", MANY - 10));
+        drop(part.stdin.take());
+        assert!(part.wait().unwrap().success());
+    });
+}
+
 #[test]
 fn a_test_that_hangs_where_no_call_waits_says_so() {
     if is_part() {

@@ -1,5 +1,8 @@
 # What rust/platforms builds with: Rust 1.85, the declared version, with cargo, std for ARM Linux, and the sources of std for who builds that. They are
 # Debian's packages, unpacked into a folder in out/ and not installed, so that the machine's own Rust stays as it is. The folder is made once.
+#
+# Who reads this file has read tests/shared.sh, and sets `std_parts`.
+# shellcheck disable=SC2154
 packages=$out/platforms/packages
 rust_root=$out/platforms/rust
 std_sources=$rust_root/lib/rustlib/src/rust

@@ -4,7 +4,7 @@
 //! tokio's documentation of `tokio::sync::watch`, by the table of calls in `specs/Channel.antt`.
 //! Start reading at that table. Continue with `specs/Record.antt`, the record of all that ever happened, and with
 //! `specs/Shown.antt`, what a machine shows of it. Then read `machine.rt`.
-//! What stands on it: `rw_world`.
+//! What stands on it: `rw_values`, `rw_waiting`, `rw_world`.
 #![tactic(auto)]
 
 mod calls;

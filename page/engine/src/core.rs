@@ -8,6 +8,8 @@ pub(crate) mod large_pages;
 pub(crate) mod lists;
 #[path = "shim.rs"]
 pub(crate) mod shim;
+#[path = "../../../rust/ttd/src/standard_streams.rs"]
+mod standard_streams;
 #[path = "../../../rust/src/core/source/page.rs"]
 #[rustfmt::skip]
 pub(crate) mod source;

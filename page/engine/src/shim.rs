@@ -39,7 +39,7 @@ pub mod sync;
 #[path = "../../../rust/ttd/src/shim/thread.rs"]
 pub mod thread;
 
-use super::large_pages;
+use super::{large_pages, standard_streams};
 
 pub use boxed::Box;
 pub use casts::saturated;

@@ -1,17 +1,10 @@
 // The contents of the page's own file: the debugger's module, the worker's program, and a run if one was put in.
 
+import { fromBase64 } from "../base/bytes.js";
 import { byId } from "../base/dom.js";
 
 // The key of the run in the page's own file, in the browser's history.
 export const OWN = "own";
-
-function fromBase64(text) {
-  if (Uint8Array.fromBase64) return Uint8Array.fromBase64(text);
-  const decoded = atob(text);
-  const bytes = new Uint8Array(decoded.length);
-  for (let i = 0; i < bytes.length; i++) bytes[i] = decoded.charCodeAt(i);
-  return bytes;
-}
 
 export function moduleBytes() {
   return fromBase64(byId("module").textContent);

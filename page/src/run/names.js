@@ -4,7 +4,7 @@
 import { visible, visibleLines } from "../base/text.js";
 import { isAccount, known } from "./account.js";
 
-const NEWEST = 4;
+const NEWEST = 5;
 
 function isText(value) {
   return typeof value === "string";

@@ -11,6 +11,7 @@ pub(crate) use logs::Log;
 use crate::arguments::Arguments;
 use crate::expression::Expression;
 use crate::recording::{Places, Recording};
+use crate::sources::Bases;
 use crate::{Answer, Refusal};
 use serde_json::{Value, json};
 use std::collections::BTreeMap;
@@ -28,7 +29,16 @@ pub(crate) struct Breakpoint {
 pub(crate) struct Breakpoints {
     last_id: u64,
     // By what the client sets at once: those of a source, of functions, of data, or of exceptions.
-    sets: BTreeMap<String, Vec<Breakpoint>>,
+    sets: BTreeMap<String, Set>,
+}
+
+/// What one request has set.
+struct Set {
+    command: &'static str,
+    given: Value,
+    // What the client was told of each that it asked for, with numbers one after the other.
+    told: Vec<Value>,
+    breakpoints: Vec<Breakpoint>,
 }
 
 /// A breakpoint that was asked for: where it is, and what the client is told.
@@ -44,13 +54,59 @@ struct Asked<'a> {
 impl Breakpoints {
     /// All breakpoints, in no order.
     pub(crate) fn all(&self) -> impl Iterator<Item = &Breakpoint> {
-        self.sets.values().flatten()
+        self.sets.values().flat_map(|set| &set.breakpoints)
+    }
+
+    /// Sets in another recording what was set before, with the same numbers. Returns the
+    /// changed ones, as the client gets them.
+    pub(crate) fn renewed(
+        before: Breakpoints,
+        bases: Bases,
+        recording: &mut Recording,
+    ) -> (Breakpoints, Vec<Value>) {
+        let (mut all, mut changed) = (Breakpoints::default(), vec![]);
+        for (name, set) in before.sets {
+            let first = set.told.first().and_then(|it| it["id"].as_u64());
+            all.last_id = first.map_or(0, |first| first - 1);
+            let answer = Arguments::of(&set.given)
+                .and_then(|given| all.set(set.command, given, bases, recording));
+            let now = all.sets.get(&name).filter(|_| answer.is_ok());
+            let now = now.map_or(&[][..], |now| &now.told);
+            changed.extend(now.iter().filter(|it| !set.told.contains(it)).cloned());
+        }
+        all.last_id = before.last_id;
+        (all, changed)
+    }
+
+    /// Sets breakpoints by a request.
+    pub(crate) fn set(
+        &mut self,
+        command: &str,
+        given: Arguments<'_>,
+        bases: Bases,
+        recording: &mut Recording,
+    ) -> Answer {
+        match command {
+            "setBreakpoints" => self.set_of_source(given, bases, recording),
+            "setFunctionBreakpoints" => self.set_functions(given, recording),
+            "setDataBreakpoints" => self.set_data(given, recording),
+            "setExceptionBreakpoints" => self.set_exceptions(given, recording),
+            other => Err(Refusal(format!(
+                "`{other}` isn't supported: a recording doesn't change"
+            ))),
+        }
     }
 
     /// Replaces a set, and returns the answer. A breakpoint with an error is answered as one that
     /// isn't verified.
-    fn replace(&mut self, set: String, asked: Vec<Asked<'_>>, recording: &mut Recording) -> Answer {
-        let (mut kept, mut told) = (vec![], vec![]);
+    fn replace(
+        &mut self,
+        (name, command): (String, &'static str),
+        given: Arguments<'_>,
+        asked: Vec<Asked<'_>>,
+        recording: &mut Recording,
+    ) -> Answer {
+        let (mut breakpoints, mut told) = (vec![], vec![]);
         for one in asked {
             self.last_id += 1;
             let (id, mut answer) = (self.last_id, one.told.clone());
@@ -58,13 +114,20 @@ impl Breakpoints {
             answer["id"] = id.into();
             answer["verified"] = made.is_ok().into();
             match made {
-                Ok(breakpoint) => kept.push(breakpoint),
+                Ok(breakpoint) => breakpoints.push(breakpoint),
                 Err(Refusal(fault)) => answer["message"] = fault.into(),
             }
             told.push(answer);
         }
-        self.sets.insert(set, kept);
-        Ok(json!({"breakpoints": told}))
+        let answer = json!({"breakpoints": told});
+        let set = Set {
+            command,
+            given: given.value().clone(),
+            told,
+            breakpoints,
+        };
+        self.sets.insert(name, set);
+        Ok(answer)
     }
 }
 

@@ -5,16 +5,16 @@ use crate::expression::{Expression, Thing, thing_of};
 use crate::moves::Debuggee;
 use crate::shown::text_of;
 use crate::variables::Group;
-use crate::{Answer, Refusal};
+use crate::{Answer, Refusal, state_json};
 use serde_json::{Value, json};
 use yovanelum::debugger::Condition;
 use yovanelum::debugger::recorded::NamedCondition;
 
 /// The words of the console.
-const WORDS: [&str; 24] = [
-    "back", "forward", "goto", "start", "end", "step", "state", "list", "rback", "rforward",
-    "hits", "why", "native", "help", "actor", "channel", "reply", "lagging", "unread", "unseen",
-    "version", "closed", "queue", "value",
+const WORDS: [&str; 26] = [
+    "back", "forward", "goto", "start", "end", "step", "state", "json", "list", "rback",
+    "rforward", "hits", "why", "native", "help", "quit", "actor", "channel", "reply", "lagging",
+    "unread", "unseen", "version", "closed", "queue", "value",
 ];
 
 /// How many entries `list` prints.
@@ -24,8 +24,9 @@ const HELP: &str = "\
 back [N], forward [N], goto N, start, end   go to another call
 rback CONDITION, rforward CONDITION         go to the nearest call that meets it
 hits CONDITION                              count these up to here
-step, state, list, why                      print the call, the channels, all calls, the report
+step, state, state json, list, why          print the call, the channels, all calls, the report
 native                                      run the test again, and stop before this call in a native debugger
+quit                                        end the session
 An expression prints its value: audit, audit.lag, orders.queued, reply, call, actor, number
 Conditions: lagging R, unread R N, unseen R, closed C, queue C N, version C N, actor A, channel C, reply WORD";
 
@@ -73,6 +74,9 @@ impl Debuggee {
         let (word, rest) = text.split_once(' ').unwrap_or((text, ""));
         let rest = rest.trim();
         let last = self.recording.len();
+        if word.is_empty() || word.starts_with('#') {
+            return Ok(Some(String::new()));
+        }
         let answer = match (word, rest) {
             ("back", _) => self.moved(self.place.checked_sub(steps(rest)?)),
             ("forward", _) => self.moved(self.place.checked_add(steps(rest)?)),
@@ -87,6 +91,7 @@ impl Debuggee {
                 .to_string()
                 .trim_end()
                 .to_string(),
+            ("state", "json") => state_json::line(self.recording.at(self.place)),
             ("list", "") => self.listed(),
             ("rback" | "rforward", _) => self.searched(rest, word == "rback")?,
             ("hits", _) => {
@@ -101,6 +106,11 @@ impl Debuggee {
                 format!("the test is built, to stop before call {call} in a native debugger")
             }
             ("help", "") => HELP.to_string(),
+            ("quit", "") => {
+                self.has_quit = true;
+                self.events.push(("terminated", Value::Null));
+                String::new()
+            }
             _ => return Ok(None),
         };
         Ok(Some(answer))

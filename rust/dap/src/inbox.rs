@@ -9,10 +9,10 @@ use std::thread;
 /// Something that has come in.
 pub(crate) enum Incoming {
     Message(Vec<u8>),
-    /// A line of a test's output.
-    Line(String),
-    /// The test's output has ended.
-    Ended,
+    /// A line of what cargo prints in a build, or in the run of a test with this number.
+    Line(Option<u64>, String),
+    /// A stream of the run with this number has ended.
+    Ended(u64),
     /// What cargo has said of a build that has ended.
     Built(Vec<u8>),
     /// No message can be found any more, if there is an error. Else the stream has ended.

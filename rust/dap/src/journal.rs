@@ -57,15 +57,20 @@ impl Journal {
     }
 }
 
-/// Returns the newest journal below a target folder, of a test if one is named, and not older than
-/// this.
+/// Returns the newest journal below a target folder, of a package and a test where they are named,
+/// and not older than this.
 pub(crate) fn newest(
     target: &Path,
+    package: Option<&str>,
     test: Option<&str>,
     since: Option<SystemTime>,
 ) -> Option<PathBuf> {
     let mut journals = vec![];
-    collect(&target.join("yovanelum"), DEPTH, &mut journals);
+    let all = target.join("yovanelum");
+    match package {
+        Some(package) => collect(&all.join(package), DEPTH - 1, &mut journals),
+        None => collect(&all, DEPTH, &mut journals),
+    }
     let newer = journals
         .into_iter()
         .filter(|(time, _)| since.is_none_or(|since| *time >= since));

@@ -3,9 +3,12 @@
 use crate::arguments::Arguments;
 use crate::inbox::Incoming;
 use crate::journal::newest;
-use crate::native;
+use crate::native::{self, Test};
+use crate::package::{Selected, target_above};
+use crate::patch::Patch;
 use crate::{Answer, Refusal};
 use serde_json::Value;
+use std::env;
 use std::io::{self, BufRead, BufReader, Read};
 use std::path::{Path, PathBuf};
 use std::process::{Child, Command, Stdio};
@@ -15,6 +18,9 @@ use std::time::{Duration, SystemTime};
 
 /// How much earlier than the clock a file's time may be.
 const COARSENESS: Duration = Duration::from_millis(50);
+
+/// By which variable cargo is told where to build.
+const TARGET_VARIABLE: &str = "CARGO_TARGET_DIR";
 
 /// The arguments of `launch` and `attach`.
 pub(crate) struct Launch {
@@ -28,7 +34,10 @@ pub(crate) struct Launch {
     /// How the editor's own debugger is started: the type of a configuration, or members of one.
     pub(crate) native: Value,
     pub(crate) variables: Vec<(String, String)>,
-    folder: PathBuf,
+    /// The folder in which cargo runs.
+    pub(crate) folder: PathBuf,
+    /// The package in tokio's place, where the build needs one that its manifests don't have.
+    pub(crate) patch: Option<Patch>,
     cargo: Vec<String>,
 }
 
@@ -49,7 +58,7 @@ impl Launch {
             .text("cwd")?
             .map(str::to_string)
             .or_else(|| root.clone());
-        let folder = PathBuf::from(folder.unwrap_or_else(|| ".".to_string()));
+        let folder = absolute(Path::new(folder.as_deref().unwrap_or(".")));
         let journal = given.text("journal")?.or(given.text("program")?);
         let owned = |(key, value): (&str, &str)| (key.to_string(), value.to_string());
         Ok(Launch {
@@ -70,6 +79,7 @@ impl Launch {
             stop_at: stop_at(given)?,
             native: native::of_launch(given)?,
             folder,
+            patch: None,
             cargo: given
                 .texts("cargoArgs")?
                 .into_iter()
@@ -79,39 +89,85 @@ impl Launch {
         })
     }
 
-    /// Returns the newest journal, of the test if one is named, that isn't older than this. Cargo
-    /// is asked for its folder, if it may be run.
-    pub(crate) fn newest(&self, since: Option<SystemTime>, runs_cargo: bool) -> Answer<PathBuf> {
+    /// Returns the newest journal of the package, and of the test if one is named. Cargo is asked
+    /// for its folder, if it may be run.
+    pub(crate) fn newest(&self, runs_cargo: bool) -> Answer<PathBuf> {
         let target = self.target(runs_cargo);
-        let since = since.map(|since| since - COARSENESS);
-        newest(&target, self.test.as_deref(), since).ok_or_else(|| {
-            let whose = self
-                .test
-                .as_ref()
-                .map_or(String::new(), |test| format!(" of a test `{test}`"));
+        let package = Selected::by(&self.cargo, &self.folder).package();
+        let found = newest(&target, package.as_deref(), self.test.as_deref(), None);
+        found.ok_or_else(|| {
+            let test = self.test.as_ref();
+            let test = test.map_or(String::new(), |test| format!(" of a test `{test}`"));
+            let package = package.map_or(String::new(), |name| format!(" of the package `{name}`"));
             let folder = target.join("yovanelum");
+            let folder = folder.display();
             Refusal(format!(
-                "there is no journal{whose} in {}: run the test first",
-                folder.display()
+                "there is no journal{test}{package} in {folder}: run the test first"
             ))
         })
     }
 
+    /// Returns the newest journal of the test that isn't older than this.
+    pub(crate) fn newest_since(&self, since: SystemTime) -> Option<PathBuf> {
+        let since = since - COARSENESS;
+        newest(&self.target(true), None, self.test.as_deref(), Some(since))
+    }
+
+    /// Returns the patch with which the newest run of the test was recorded, if there was one, and
+    /// the build needs it.
+    pub(crate) fn patch_of_last_run(&self) -> Option<Patch> {
+        let journal = self.newest(true).ok()?;
+        let names = std::fs::read_to_string(journal.with_extension("names")).ok()?;
+        let is_patched = Test::of(&names).is_some_and(|test| test.is_patched);
+        let patch = is_patched.then(|| self.patch_of_build())?;
+        patch.ok().flatten()
+    }
+
+    /// Returns the patch of the build, unless its manifests or the words for cargo have it.
+    pub(crate) fn patch_of_build(&self) -> Answer<Option<Patch>> {
+        let metadata = self.metadata(&[]);
+        metadata.map_or(Ok(None), |metadata| Patch::of_build(&metadata))
+    }
+
+    /// Returns what cargo tells of the packages, if it does.
+    fn metadata(&self, words: &[&str]) -> Option<Value> {
+        let mut command = self.command(&["metadata", "--format-version", "1"]);
+        let selected = Selected::by(&self.cargo, &self.folder);
+        let told = command.args(words).args(selected.words()).output().ok()?;
+        serde_json::from_slice(&told.stdout).ok()
+    }
+
     /// The folder that cargo builds in.
     fn target(&self, runs_cargo: bool) -> PathBuf {
-        let mut words = self.cargo.iter();
-        if words.any(|word| word == "--target-dir") {
-            if let Some(folder) = words.next() {
-                return self.folder.join(folder);
-            }
+        if let Some(folder) = Selected::by(&self.cargo, &self.folder).target() {
+            return folder;
         }
-        let mut command = self.command(&["metadata", "--no-deps", "--format-version", "1"]);
-        let told = runs_cargo.then(|| command.output().ok()).flatten();
-        let told = told.and_then(|told| serde_json::from_slice::<Value>(&told.stdout).ok());
-        let target = told
+        let told = runs_cargo.then(|| self.metadata(&["--no-deps"])).flatten();
+        let told = told
             .as_ref()
             .and_then(|told| told.get("target_directory")?.as_str());
-        target.map_or_else(|| self.folder.join("target"), PathBuf::from)
+        told.map_or_else(|| self.target_without_cargo(), PathBuf::from)
+    }
+
+    /// The folder that cargo builds in, where it can't be asked: an editor may not know where cargo
+    /// is, and a client of a port has none run.
+    fn target_without_cargo(&self) -> PathBuf {
+        let mut named = self
+            .variables
+            .iter()
+            .filter(|(key, _)| key == TARGET_VARIABLE);
+        let named = named.next_back().map(|(_, value)| value.clone());
+        let named = named.or_else(|| env::var(TARGET_VARIABLE).ok());
+        match named.filter(|it| !it.is_empty()) {
+            Some(named) => self.folder.join(named),
+            None => target_above(&self.folder),
+        }
+    }
+
+    /// The words for cargo, with the patch.
+    fn words(&self) -> impl Iterator<Item = &str> {
+        let patch = self.patch.iter().flat_map(Patch::words);
+        self.cargo.iter().map(String::as_str).chain(patch)
     }
 
     fn command(&self, words: &[&str]) -> Command {
@@ -124,16 +180,16 @@ impl Launch {
         command
     }
 
-    /// Starts the test. A test that passes leaves its journal, too.
-    pub(crate) fn start(&self, test: &str, lines: &Sender<Incoming>) -> Answer<Running> {
+    /// Starts the test as a run of this number. A test that passes leaves its journal, too.
+    pub(crate) fn start(&self, test: &str, run: u64, lines: &Sender<Incoming>) -> Answer<Running> {
         let mut command = self.command(&["test"]);
-        command.args(&self.cargo).args([test, "--", "--nocapture"]);
+        command.args(self.words()).args([test, "--", "--nocapture"]);
         let mut child = self.spawn(command.env("YOVANELUM_KEEP", "1"))?;
         for stream in [readable(child.stdout.take()), readable(child.stderr.take())] {
             let lines = lines.clone();
             thread::spawn(move || {
-                let _ = pass_lines(stream, &lines);
-                let _ = lines.send(Incoming::Ended);
+                let _ = pass_lines(stream, Some(run), &lines);
+                let _ = lines.send(Incoming::Ended(run));
             });
         }
         Ok(Running::of(child))
@@ -147,10 +203,10 @@ impl Launch {
         if !package.is_empty() && !self.cargo.iter().any(is_said) {
             command.arg(format!("--package={package}"));
         }
-        let mut child = self.spawn(command.args(&self.cargo))?;
+        let mut child = self.spawn(command.args(self.words()))?;
         let (lines, messages) = (sender.clone(), sender.clone());
         let said = readable(child.stderr.take());
-        thread::spawn(move || pass_lines(said, &lines));
+        thread::spawn(move || pass_lines(said, None, &lines));
         let mut built = readable(child.stdout.take());
         thread::spawn(move || {
             let mut bytes = vec![];
@@ -224,13 +280,13 @@ fn readable(stream: Option<impl Read + Send + 'static>) -> Box<dyn Read + Send> 
     }
 }
 
-fn pass_lines(stream: impl Read, lines: &Sender<Incoming>) -> io::Result<()> {
+fn pass_lines(stream: impl Read, run: Option<u64>, lines: &Sender<Incoming>) -> io::Result<()> {
     let mut stream = BufReader::new(stream);
     let mut line = vec![];
     while stream.read_until(b'\n', &mut line)? > 0 {
         let text = String::from_utf8_lossy(&line).into_owned();
         line.clear();
-        if lines.send(Incoming::Line(text)).is_err() {
+        if lines.send(Incoming::Line(run, text)).is_err() {
             break;
         }
     }

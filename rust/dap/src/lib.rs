@@ -15,10 +15,14 @@ mod launch;
 mod message;
 mod moves;
 mod native;
+mod numbered;
+mod package;
+mod patch;
 mod recording;
 mod session;
 mod shown;
 mod sources;
+mod state_json;
 mod targets;
 mod texts;
 mod variables;
@@ -31,6 +35,13 @@ pub use session::{Options, serve};
 struct Refusal(String);
 
 impl Refusal {
+    /// What the protocol has a response say whose request was cancelled.
+    const CANCELLED: &str = "cancelled";
+
+    fn cancelled() -> Refusal {
+        Refusal::new(Refusal::CANCELLED)
+    }
+
     fn new(text: impl Into<String>) -> Refusal {
         Refusal(text.into())
     }

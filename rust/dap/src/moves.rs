@@ -2,6 +2,7 @@
 
 use crate::arguments::Arguments;
 use crate::breakpoints::{Breakpoint, Breakpoints, nearest};
+use crate::numbered::Numbered;
 use crate::recording::Recording;
 use crate::shown::Frame;
 use crate::sources::Bases;
@@ -24,15 +25,28 @@ pub(crate) struct Debuggee {
     /// The actor whose call led here.
     pub(crate) actor: u32,
     pub(crate) breakpoints: Breakpoints,
-    /// The frames and groups of variables that have numbers, from 1 on. A move forgets them.
-    pub(crate) frames: Vec<Frame>,
-    pub(crate) groups: Vec<Group>,
+    /// The frames and groups of variables of this stop. A move forgets them.
+    pub(crate) frames: Numbered<Frame>,
+    pub(crate) groups: Numbered<Group>,
+    /// Whether the client has been told of the first stop.
+    pub(crate) has_begun: bool,
+    /// Whether the user has ended it.
+    pub(crate) has_quit: bool,
     /// Whether the client starts other debuggers.
     pub(crate) has_debuggers: bool,
     /// The call before which a native debugger is wanted.
     pub(crate) wanted: Option<u32>,
     /// What is sent after the response.
     pub(crate) events: Vec<(&'static str, Value)>,
+}
+
+/// What is left of a run that was debugged: its breakpoints, and the last numbers that its client
+/// was given.
+#[derive(Default)]
+pub(crate) struct Left {
+    pub(crate) breakpoints: Breakpoints,
+    frames: usize,
+    groups: usize,
 }
 
 /// Why a move stopped.
@@ -60,7 +74,8 @@ impl Stop {
 }
 
 impl Debuggee {
-    pub(crate) fn new(recording: Recording, bases: Bases, place: u32) -> Debuggee {
+    /// Opens a recording at a place. Its client may remember what this is left of.
+    pub(crate) fn new(recording: Recording, bases: Bases, place: u32, left: &Left) -> Debuggee {
         let actor = recording.entry(place).map(|entry| entry.actor());
         Debuggee {
             actor: actor
@@ -70,22 +85,45 @@ impl Debuggee {
             recording,
             bases,
             breakpoints: Breakpoints::default(),
-            frames: vec![],
-            groups: vec![],
+            frames: Numbered::above(left.frames),
+            groups: Numbered::above(left.groups),
+            has_begun: false,
+            has_quit: false,
             has_debuggers: false,
             wanted: None,
             events: vec![],
         }
     }
 
+    /// Returns what is left of it.
+    pub(crate) fn left(self) -> Left {
+        Left {
+            breakpoints: self.breakpoints,
+            frames: self.frames.last(),
+            groups: self.groups.last(),
+        }
+    }
+
     /// Tells of the first stop.
     pub(crate) fn begin(&mut self) {
+        self.has_begun = true;
         for actor in self.recording.actors() {
             let thread = thread_of(actor);
             self.events
                 .push(("thread", json!({"reason": "started", "threadId": thread})));
         }
         self.stop(Stop::of("entry"));
+    }
+
+    /// Sets breakpoints again that were set in another recording, and tells which have changed.
+    pub(crate) fn renew_breakpoints(&mut self, before: Breakpoints) {
+        let (breakpoints, changed) = Breakpoints::renewed(before, self.bases, &mut self.recording);
+        self.breakpoints = breakpoints;
+        let changed = changed.into_iter();
+        self.events.extend(changed.map(|breakpoint| {
+            let body = json!({"reason": "changed", "breakpoint": breakpoint});
+            ("breakpoint", body)
+        }));
     }
 
     fn stop(&mut self, stop: Stop) {

@@ -5,6 +5,7 @@ use crate::arguments::Arguments;
 use crate::inbox::Incoming;
 use crate::journal::Journal;
 use crate::launch::{Launch, Running};
+use crate::patch::Patch;
 use crate::{Answer, Refusal};
 use serde_json::{Map, Value, json};
 use std::path::{Path, PathBuf};
@@ -26,11 +27,13 @@ pub(crate) struct Native {
 }
 
 /// A test, as the names say it.
-struct Test {
+pub(crate) struct Test {
     package: String,
     target: String,
     /// The name that cargo's test harness knows it by.
     name: String,
+    /// Whether a package stood for tokio in its build.
+    pub(crate) is_patched: bool,
 }
 
 /// The build of a test's program, for a stop before this call.
@@ -41,8 +44,9 @@ struct Building {
 
 impl Test {
     /// Reads it from the names. No word of it may be taken for an option.
-    fn of(names: &str) -> Option<Test> {
+    pub(crate) fn of(names: &str) -> Option<Test> {
         let names: Value = serde_json::from_str(names).ok()?;
+        let is_patched = names.get("test")?.get("patched") == Some(&true.into());
         let word = |key: &str| {
             let word = names.get("test")?.get(key)?.as_str()?;
             (!word.starts_with('-') && !word.contains('\0')).then(|| word.to_string())
@@ -51,6 +55,7 @@ impl Test {
             package: word("package")?,
             target: word("target")?,
             name: word("thread").filter(|name| !name.is_empty())?,
+            is_patched,
         })
     }
 }
@@ -71,9 +76,18 @@ impl Native {
         let test = self.test.as_ref().ok_or_else(|| {
             Refusal::new("the names beside the journal don't say of which test it is")
         })?;
+        if test.is_patched && self.launch.patch.is_none() {
+            self.launch.patch = self.launch.patch_of_build()?;
+        }
         let running = self.launch.build(&test.package, sender)?;
         self.building = Some(Building { call, running });
         Ok(())
+    }
+
+    /// Returns the patch that the build in this folder needs, as far as it is known.
+    pub(crate) fn patch_in(&self, folder: &Path) -> Option<Patch> {
+        let patch = self.launch.patch.as_ref();
+        patch.filter(|_| self.launch.folder == folder).cloned()
     }
 
     /// Ends a build.

@@ -1,20 +1,24 @@
 //! A session with one client: requests in, and for each a response. Before a launch little is
 //! answered.
 
+mod real_call;
+mod test_run;
+
 use crate::arguments::Arguments;
 use crate::breakpoints::FILTERS;
 use crate::inbox::{Inbox, Incoming};
 use crate::journal::Journal;
-use crate::launch::{Launch, Running, StopAt, absolute};
-use crate::moves::Debuggee;
+use crate::launch::{Launch, StopAt, absolute};
+use crate::moves::{Debuggee, Left};
 use crate::native::Native;
 use crate::recording::Recording;
 use crate::sources::{Bases, Sources};
 use crate::{Answer, Refusal, message};
 use serde_json::{Value, json};
+use std::collections::BTreeSet;
 use std::io::{Read, Write};
 use std::panic::{AssertUnwindSafe, catch_unwind};
-use std::path::PathBuf;
+use test_run::Cancelled;
 
 /// What a client may do.
 #[derive(Clone, Copy)]
@@ -52,6 +56,9 @@ const SUPPORTED: [&str; 21] = [
 const NOT_ALLOWED: &str =
     "no test is run for a client of a port: start the adapter with `--run-tests`";
 
+/// What the protocol has a response say to a request that is for a stop, where there is none yet.
+const NOT_STOPPED: &str = "notStopped";
+
 struct Session<W> {
     inbox: Inbox,
     output: W,
@@ -64,6 +71,16 @@ struct Session<W> {
     launched: Option<Value>,
     debuggee: Option<Debuggee>,
     native: Option<Native>,
+    /// The number of the request that is answered now.
+    answering: u64,
+    /// The numbers of requests that were cancelled while they waited.
+    cancelled: BTreeSet<u64>,
+    /// What is left of the last run that was debugged and isn't any more.
+    left: Left,
+    /// The number of the last run of a test.
+    run: u64,
+    /// Whether what was launched has ended.
+    has_ended: bool,
     is_over: bool,
 }
 
@@ -81,6 +98,11 @@ pub fn serve(input: impl Read + Send + 'static, output: impl Write, options: Opt
         launched: None,
         debuggee: None,
         native: None,
+        answering: 0,
+        cancelled: BTreeSet::new(),
+        left: Left::default(),
+        run: 0,
+        has_ended: false,
         is_over: false,
     };
     let is_whole = session.run();
@@ -93,8 +115,8 @@ impl<W: Write> Session<W> {
         while !self.is_over {
             match self.inbox.next() {
                 Incoming::Message(bytes) => self.receive(&bytes),
-                Incoming::Line(line) => self.print("console", &line),
-                Incoming::Ended => {}
+                Incoming::Line(_, line) => self.print("console", &line),
+                Incoming::Ended(_) => {}
                 Incoming::Built(messages) => self.start_native(&messages),
                 Incoming::NoMore(None) => return true,
                 Incoming::NoMore(Some(fault)) => {
@@ -144,9 +166,7 @@ impl<W: Write> Session<W> {
             Some("request") => {}
             _ => return self.respond(&request, Err(Refusal::new("a message is no request"))),
         }
-        let answer = catch_unwind(AssertUnwindSafe(|| self.answer(&request)));
-        let answer =
-            answer.unwrap_or_else(|_| Err(Refusal::new("the adapter has failed at this request")));
+        let answer = self.answer_or_cancel(&request);
         let is_right = answer.is_ok();
         self.respond(&request, answer);
         let command = request.get("command").and_then(Value::as_str);
@@ -163,81 +183,29 @@ impl<W: Write> Session<W> {
         for (event, body) in events.unwrap_or_default() {
             self.event(event, body);
         }
+        if self.debuggee.as_ref().is_some_and(|it| it.has_quit) {
+            self.end_debuggee();
+        }
         let wanted = self.debuggee.as_mut().and_then(|it| it.wanted.take());
         if let Some(call) = wanted {
             self.build_native(call);
         }
     }
 
-    /// Takes the answer to a request of the adapter's.
-    fn heed(&mut self, response: &Value) {
-        let is_of = |command| response.get("command").and_then(Value::as_str) == Some(command);
-        if is_of("startDebugging") && response.get("success") != Some(&true.into()) {
-            let why = response.get("message").and_then(Value::as_str);
-            let why = why.unwrap_or("it doesn't say why");
-            let line = format!(
-                "the editor didn't start its debugger: {why}. `nativeDebugger` of the launch says its type\n"
-            );
-            self.print("important", &line);
+    /// Answers a request, unless it was cancelled while it waited.
+    fn answer_or_cancel(&mut self, request: &Value) -> Answer {
+        self.answering = number_of(request);
+        if self.cancelled.remove(&self.answering) {
+            return Err(Refusal::cancelled());
         }
-    }
-
-    /// Builds the test of the journal, to stop a native debugger before this call.
-    fn build_native(&mut self, call: u32) {
-        let sender = self.inbox.sender();
-        let begun = match (&mut self.native, self.options.runs_tests) {
-            (Some(native), true) => native.build(call, &sender),
-            (Some(_), false) => Err(Refusal::new(NOT_ALLOWED)),
-            (None, _) => Err(Refusal::new("nothing was launched")),
-        };
-        match begun {
-            Err(Refusal(fault)) => self.print("important", &format!("{fault}\n")),
-            Ok(()) if self.has_progress => {
-                let title = format!("building the test, to stop before call {call}");
-                let body = json!({"progressId": "native", "title": title, "cancellable": true});
-                self.event("progressStart", body);
-            }
-            Ok(()) => {}
-        }
-    }
-
-    fn end_build(&mut self) {
-        if let Some(native) = &mut self.native {
-            native.end();
-        }
-    }
-
-    /// Has the editor start its own debugger on the test that was built, or says how to.
-    fn start_native(&mut self, messages: &[u8]) {
-        if self.has_progress {
-            self.event("progressEnd", json!({"progressId": "native"}));
-        }
-        let Some(native) = &mut self.native else {
-            return;
-        };
-        match native.built(messages) {
-            Err(Refusal(fault)) => self.print("important", &format!("{fault}\n")),
-            Ok(start) if self.has_debuggers => {
-                let configuration = native.configuration(&start);
-                let arguments = json!({"configuration": configuration, "request": "launch"});
-                self.send(
-                    json!({"type": "request", "command": "startDebugging", "arguments": arguments}),
-                );
-            }
-            Ok(start) => {
-                let line = format!(
-                    "this editor starts no other debugger for an adapter. In a shell:\n{}\n",
-                    start.command()
-                );
-                self.print("important", &line);
-            }
-        }
+        let answer = catch_unwind(AssertUnwindSafe(|| self.answer(request)));
+        answer.unwrap_or_else(|_| Err(Refusal::new("the adapter has failed at this request")))
     }
 
     fn respond(&mut self, request: &Value, answer: Answer) {
         let mut response = json!({
             "type": "response",
-            "request_seq": request.get("seq").and_then(Value::as_u64).unwrap_or(0),
+            "request_seq": number_of(request),
             "command": request.get("command").and_then(Value::as_str).unwrap_or_default(),
             "success": answer.is_ok(),
         });
@@ -245,7 +213,9 @@ impl<W: Write> Session<W> {
             Ok(Value::Null) => {}
             Ok(body) => response["body"] = body,
             Err(Refusal(fault)) => {
-                response["body"] = json!({"error": {"id": 1, "format": fault, "showUser": true}});
+                let is_shown = is_asked_by_user(request) && fault != Refusal::CANCELLED;
+                response["body"] =
+                    json!({"error": {"id": 1, "format": fault, "showUser": is_shown}});
                 response["message"] = fault.into();
             }
         }
@@ -259,9 +229,15 @@ impl<W: Write> Session<W> {
         match command {
             "initialize" => self.initialize(given),
             "launch" | "attach" => self.launch(given),
-            "restart" => self.restart(),
-            "cancel" | "terminate" => {
-                self.end_build();
+            "restart" => self.restart(given),
+            "cancel" => {
+                if Cancelled::read(given)?.is_of_progress(real_call::PROGRESS) {
+                    self.end_build();
+                }
+                Ok(Value::Null)
+            }
+            "terminate" => {
+                self.end_debuggee();
                 Ok(Value::Null)
             }
             "disconnect" => {
@@ -270,10 +246,22 @@ impl<W: Write> Session<W> {
             }
             _ => match &mut self.debuggee {
                 Some(debuggee) => debuggee.answer(command, given),
+                None if self.has_ended => Err(Refusal(format!(
+                    "`{command}` isn't answered after the end of the session"
+                ))),
                 None => Err(Refusal(format!(
                     "`{command}` isn't answered before a launch"
                 ))),
             },
+        }
+    }
+
+    /// Ends what is debugged. The session goes on, so that it can be launched again.
+    fn end_debuggee(&mut self) {
+        self.end_build();
+        if let Some(debuggee) = self.debuggee.take() {
+            self.left = debuggee.left();
+            self.has_ended = true;
         }
     }
 
@@ -296,9 +284,11 @@ impl<W: Write> Session<W> {
     }
 
     fn launch(&mut self, given: Arguments<'_>) -> Answer {
-        let launch = Launch::read(given)?;
-        self.launched = Some(given.value().clone());
-        let path = absolute(&self.journal_of(&launch)?);
+        let mut launch = Launch::read(given)?;
+        if let Some(native) = &self.native {
+            launch.patch = native.patch_in(&launch.folder);
+        }
+        let path = absolute(&self.journal_of(&mut launch)?);
         let journal = Journal::read(&path)?;
         let sources = Sources::new(launch.root.as_deref(), launch.replaced.clone(), &path);
         let (recording, warnings) = Recording::open(&journal, sources)?;
@@ -312,156 +302,102 @@ impl<W: Write> Session<W> {
             StopAt::End => last,
             StopAt::Call(call) => call,
         };
-        let mut debuggee = Debuggee::new(recording, self.bases, place.min(last));
+        if let Some(before) = self.debuggee.take() {
+            self.left = before.left();
+        }
+        let mut debuggee = Debuggee::new(recording, self.bases, place.min(last), &self.left);
         debuggee.has_debuggers = self.has_debuggers;
         for line in debuggee.report_lines() {
             self.event("output", line);
         }
         self.debuggee = Some(debuggee);
+        self.launched = Some(given.value().clone());
+        self.has_ended = false;
         self.end_build();
         self.native = Some(Native::of(&journal, launch));
         Ok(Value::Null)
     }
 
-    /// Opens what was launched again. A test is run again.
-    fn restart(&mut self) -> Answer {
-        let launched = self
-            .launched
-            .clone()
-            .ok_or_else(|| Refusal::new("nothing was launched"))?;
-        let before = self.debuggee.take();
-        let launch = Arguments::of(&launched).and_then(|given| self.launch(given));
-        if launch.is_err() {
-            self.debuggee = before;
-            return launch;
-        }
-        if let (Some(before), Some(debuggee)) = (before, &mut self.debuggee) {
-            debuggee.breakpoints = before.breakpoints;
+    /// Opens what was launched again, by the client's latest arguments if it has some. A test is
+    /// run again.
+    fn restart(&mut self, given: Arguments<'_>) -> Answer {
+        let launched = self.launched.clone();
+        let launched = launched.ok_or_else(|| Refusal::new("nothing was launched"))?;
+        let latest = given.object("arguments")?.value();
+        let launched = if latest.is_null() {
+            launched
+        } else {
+            latest.clone()
+        };
+        let answer = Arguments::of(&launched).and_then(|given| self.launch(given))?;
+        let before = std::mem::take(&mut self.left.breakpoints);
+        if let Some(debuggee) = &mut self.debuggee {
+            debuggee.renew_breakpoints(before);
             debuggee.begin();
         }
-        launch
-    }
-
-    /// Returns the path of the journal that is launched.
-    fn journal_of(&mut self, launch: &Launch) -> Answer<PathBuf> {
-        match (&launch.journal, &launch.test) {
-            (Some(journal), _) => Ok(journal.clone()),
-            (None, Some(test)) if launch.runs => {
-                if !self.options.runs_tests {
-                    return Err(Refusal::new(NOT_ALLOWED));
-                }
-                self.run_test(launch, test)
-            }
-            _ => launch.newest(None, self.options.runs_tests),
-        }
-    }
-
-    /// Runs a test, whose output is printed. A request to cancel, to terminate or to disconnect
-    /// ends it.
-    fn run_test(&mut self, launch: &Launch, test: &str) -> Answer<PathBuf> {
-        let mut running = launch.start(test, &self.inbox.sender())?;
-        if self.has_progress {
-            let title = format!("cargo test {test}");
-            self.event(
-                "progressStart",
-                json!({"progressId": "test", "title": title, "cancellable": true}),
-            );
-        }
-        let is_whole = self.follow(&mut running);
-        if self.has_progress {
-            self.event("progressEnd", json!({"progressId": "test"}));
-        }
-        if !is_whole {
-            return Err(Refusal::new("the test was ended"));
-        }
-        running.wait();
-        launch.newest(Some(running.since), true).map_err(|_| {
-            Refusal(format!("`cargo test {test}` wrote no journal of a test `{test}`: see its output, and whether the test has a `Recorder::for_test`"))
-        })
-    }
-
-    /// Prints the lines of a test until it ends. Returns `false` if the client ended it.
-    fn follow(&mut self, running: &mut Running) -> bool {
-        let mut streams = Running::STREAMS;
-        while streams > 0 {
-            match self.inbox.next_new() {
-                Incoming::Line(line) => self.print("stdout", &line),
-                Incoming::Ended => streams -= 1,
-                Incoming::Built(messages) => self.start_native(&messages),
-                incoming => {
-                    let is_end = ends_test(&incoming);
-                    self.inbox.put_back(incoming);
-                    if is_end || self.is_over {
-                        running.end();
-                        return false;
-                    }
-                }
-            }
-        }
-        true
+        Ok(answer)
     }
 }
 
-/// Whether a message ends the test that runs: it is one of those that need no answer of the test's,
-/// or there are no more.
-fn ends_test(incoming: &Incoming) -> bool {
-    let Incoming::Message(bytes) = incoming else {
-        return true;
-    };
-    let request = serde_json::from_slice::<Value>(bytes).unwrap_or(Value::Null);
-    let command = request.get("command").and_then(Value::as_str);
-    matches!(command, Some("cancel" | "terminate" | "disconnect"))
+/// Returns the number of a request.
+fn number_of(request: &Value) -> u64 {
+    request.get("seq").and_then(Value::as_u64).unwrap_or(0)
+}
+
+/// Whether the user has asked for what fails. An editor asks by itself for what the mouse is over,
+/// and for each watch at each stop.
+fn is_asked_by_user(request: &Value) -> bool {
+    let context = request.get("arguments").and_then(|it| it.get("context"));
+    let context = context.and_then(Value::as_str);
+    request.get("command").and_then(Value::as_str) != Some("evaluate")
+        || matches!(context, None | Some("repl"))
 }
 
 impl Debuggee {
     fn answer(&mut self, command: &str, given: Arguments<'_>) -> Answer {
-        match command {
-            "configurationDone" => {
+        match (command, at_stop(command)) {
+            ("configurationDone", _) if self.has_begun => {
+                Err(Refusal::new("the configuration is done already"))
+            }
+            ("configurationDone", _) => {
                 self.begin();
                 Ok(Value::Null)
             }
-            "threads" => self.threads(),
-            "stackTrace" => self.stack_trace(given),
-            "scopes" => self.scopes(given),
-            "variables" => self.variables(given),
-            "evaluate" => self.evaluate(given),
-            "completions" => self.completions(given),
-            "next" => self.step(given, false),
-            "stepBack" => self.step(given, true),
-            "stepIn" => self.step_in(given),
-            "stepInTargets" => self.step_in_targets(given),
-            "stepOut" => self.step_out(given),
-            "continue" => self.run(given, false),
-            "reverseContinue" => self.run(given, true),
-            "gotoTargets" => self.goto_targets(given),
-            "goto" => self.goto(given),
-            "restartFrame" => self.restart_frame(given),
-            "exceptionInfo" => self.exception_info(),
-            "breakpointLocations" => self.recording.breakpoint_locations(given, self.bases),
-            "dataBreakpointInfo" => self.data_breakpoint_info(given),
-            "loadedSources" => self.loaded_sources(),
-            "source" => self.source(given),
-            "locations" => self.location(given),
-            "native" => self.debug_real_call(given),
-            _ => self.set(command, given),
+            ("threads", _) => self.threads(),
+            ("breakpointLocations", _) => self.recording.breakpoint_locations(given, self.bases),
+            ("dataBreakpointInfo", _) => self.data_breakpoint_info(given),
+            ("loadedSources", _) => self.loaded_sources(),
+            ("source", _) => self.source(given),
+            (_, Some(_)) if !self.has_begun => Err(Refusal::new(NOT_STOPPED)),
+            (_, Some(answer)) => answer(self, given),
+            _ => self
+                .breakpoints
+                .set(command, given, self.bases, &mut self.recording),
         }
     }
+}
 
-    /// Sets breakpoints.
-    fn set(&mut self, command: &str, given: Arguments<'_>) -> Answer {
-        match command {
-            "setBreakpoints" => {
-                self.breakpoints
-                    .set_of_source(given, self.bases, &mut self.recording)
-            }
-            "setFunctionBreakpoints" => self.breakpoints.set_functions(given, &mut self.recording),
-            "setDataBreakpoints" => self.breakpoints.set_data(given, &mut self.recording),
-            "setExceptionBreakpoints" => {
-                self.breakpoints.set_exceptions(given, &mut self.recording)
-            }
-            other => Err(Refusal(format!(
-                "`{other}` isn't supported: a recording doesn't change"
-            ))),
-        }
-    }
+/// What answers a request that is for a stop, or `None` if it isn't.
+fn at_stop(command: &str) -> Option<fn(&mut Debuggee, Arguments<'_>) -> Answer> {
+    Some(match command {
+        "stackTrace" => |it, given| it.stack_trace(given),
+        "scopes" => |it, given| it.scopes(given),
+        "variables" => |it, given| it.variables(given),
+        "evaluate" => |it, given| it.evaluate(given),
+        "completions" => |it, given| it.completions(given),
+        "next" => |it, given| it.step(given, false),
+        "stepBack" => |it, given| it.step(given, true),
+        "stepIn" => |it, given| it.step_in(given),
+        "stepInTargets" => |it, given| it.step_in_targets(given),
+        "stepOut" => |it, given| it.step_out(given),
+        "continue" => |it, given| it.run(given, false),
+        "reverseContinue" => |it, given| it.run(given, true),
+        "gotoTargets" => |it, given| it.goto_targets(given),
+        "goto" => |it, given| it.goto(given),
+        "restartFrame" => |it, given| it.restart_frame(given),
+        "exceptionInfo" => |it, _| it.exception_info(),
+        "locations" => |it, given| it.location(given),
+        "native" => |it, given| it.debug_real_call(given),
+        _ => return None,
+    })
 }

@@ -72,8 +72,8 @@ impl Debuggee {
     }
 
     fn numbered(&mut self, frame: Frame, name: String) -> Value {
-        self.frames.push(frame);
-        json!({"id": self.frames.len(), "name": name, "line": 0, "column": 0})
+        let number = self.frames.add(frame);
+        json!({"id": number, "name": name, "line": 0, "column": 0})
     }
 
     fn frame_of_call(&mut self, place: u32, is_top: bool) -> Value {
@@ -181,15 +181,13 @@ impl Debuggee {
     }
 
     pub(crate) fn frame_of(&self, id: u64) -> Answer<Frame> {
-        let index = usize::try_from(id).ok().and_then(|id| id.checked_sub(1));
-        let frame = index.and_then(|index| self.frames.get(index)).copied();
+        let frame = self.frames.get(id);
         frame.ok_or_else(|| Refusal::new("there is no such frame at this stop"))
     }
 
     /// Gives a group of variables a number.
     pub(crate) fn numbered_group(&mut self, group: Group) -> usize {
-        self.groups.push(group);
-        self.groups.len()
+        self.groups.add(group)
     }
 
     /// Returns the call, the channels with that of the call first, and the report.

@@ -68,8 +68,7 @@ impl Debuggee {
     }
 
     pub(crate) fn group_of(&self, id: u64) -> Answer<Group> {
-        let index = usize::try_from(id).ok().and_then(|id| id.checked_sub(1));
-        let group = index.and_then(|index| self.groups.get(index)).copied();
+        let group = self.groups.get(id);
         group.ok_or_else(|| Refusal::new("there are no such variables at this stop"))
     }
 

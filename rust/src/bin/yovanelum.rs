@@ -19,9 +19,25 @@ fn main() -> ExitCode {
         return start_adapter(&words[1..]);
     }
     let mut out = io::stdout().lock();
+    if words == ["--version"] || words == ["-V"] {
+        return tell_version(&mut out);
+    }
     let status = yovanelum::command(words, PAGE, &mut out, &mut io::stderr());
     let _ = out.flush();
     ExitCode::from(status)
+}
+
+/// Prints the version, as cargo's own tools do.
+fn tell_version(out: &mut impl Write) -> ExitCode {
+    let version = concat!("yovanelum ", env!("CARGO_PKG_VERSION"), "\n");
+    let told = out.write_all(version.as_bytes()).and_then(|()| out.flush());
+    match told {
+        Ok(()) => ExitCode::SUCCESS,
+        Err(error) => {
+            eprintln!("write error: {error}");
+            ExitCode::from(4)
+        }
+    }
 }
 
 /// Starts the adapter that is beside this program, or else that of the PATH, and ends with its

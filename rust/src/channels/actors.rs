@@ -14,8 +14,9 @@ mod spawned;
 
 pub use caller::set_task_id;
 pub(crate) use caller::{
-    CallerNumber, current, current_task, has_called, is_current_caller, is_dropping_future,
-    name_of_caller, name_of_future, name_of_thread_alone, write_caller,
+    CallerNumber, current, current_task, forget_last_recorder, has_called, is_current_caller,
+    is_dropping_future, last_recorder, name_of_blocked, name_of_caller, name_of_future,
+    name_of_task, name_of_thread_alone, number_of_caller, write_caller,
 };
 pub(crate) use explored::{is_in_task, is_over_facade, last_task, set_last_task};
 pub(crate) use holders::Unused;

@@ -50,7 +50,7 @@ impl RecordedChannel {
     /// none, or its run has no room for one more, the channel isn't recorded. Its first two handles
     /// are made here in the source.
     pub(crate) fn add(core: CoreChannel, value_count: u64, made_at: CallSite) -> RecordedChannel {
-        let current = Recorder::current_or_off();
+        let current = Recorder::current_or_begun();
         note_channel(made_at, current.is_some());
         if current.is_none() {
             say_that_none_replays(made_at);

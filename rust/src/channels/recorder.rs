@@ -1,6 +1,7 @@
 //! Recorders. The channels of a recorder make one run, with one journal. Each channel asks here
 //! whom it belongs to. What becomes of a run, its journal and its files, is of the harness.
 
+mod automatic;
 mod current;
 mod events;
 mod flight;
@@ -13,21 +14,25 @@ mod scope;
 mod shared;
 mod texts;
 mod waiting;
+mod waits_then;
 
+pub(crate) use automatic::{ForTests, TestOfThread, give_to_tests, test_of_this_thread};
 pub use current::{Entered, Installed, follow_this_thread};
 pub(crate) use current::{current_and_home, is_any_entered, is_entered};
 pub use flight::{Dump, Dumps};
 pub(crate) use flight::{DumpRequest, DumpSettings, Why};
 pub use handle::{Handle, RecordedHandle};
-pub(crate) use noted_panic::{NotedPanic, PATIENCE, text_of};
+pub(crate) use noted_panic::{MOST_BYTES, NotedPanic, PATIENCE, text_of};
 pub(crate) use outside::{
-    REPLAY, first_of_none, is_any_made, is_any_of_none, note_channel, say_that_none_replays,
+    OfNone, REPLAY, TestCount, is_any_made, is_any_of_none, next_moment, note_channel, of_none,
+    say_that_none_replays,
 };
 pub use scope::Scoped;
 pub(crate) use shared::HeldTexts;
 pub(crate) use shared::{RecordedBy, Shared};
 pub use texts::TextOf;
 pub use waiting::Waiting;
+pub(crate) use waits_then::WaitThen;
 
 use crate::channels::lock::lock;
 use std::fmt;

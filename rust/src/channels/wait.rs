@@ -8,6 +8,7 @@ use crate::channels::handle::Kind;
 use crate::channels::lock::lock;
 use crate::channels::queue::ItemNumber;
 use crate::channels::turns::{Permit, Ticket};
+use crate::channels::whereabouts::waker_of_call;
 use crate::run::word::Word;
 use std::task::{Context, Poll, Waker};
 use std::time::{Duration, Instant};
@@ -186,7 +187,7 @@ impl<'a> PolledCall<'a> {
                 return Poll::Pending;
             }
             drop(channel);
-            cloned = Some(context.waker().clone());
+            cloned = Some(waker_of_call(&self.method, context));
         }
     }
 

@@ -1,6 +1,7 @@
 //! The wakers of the futures that wait for a channel.
 
 use crate::channels::queue::{ItemNumber, Queue};
+use crate::channels::whereabouts::renews;
 use std::mem;
 use std::panic::{self, AssertUnwindSafe};
 use std::task::Waker;
@@ -16,7 +17,7 @@ impl WakerQueue {
     /// same task as this one.
     pub(crate) fn wakes(&self, number: Option<ItemNumber>, waker: &Waker) -> bool {
         let queued = number.and_then(|number| self.0.get(number));
-        queued.is_some_and(|queued| queued.will_wake(waker))
+        queued.is_some_and(|queued| renews(queued, waker))
     }
 
     /// Adds the waker of a future, at the end. A future that is in the queue stays where it is, and

@@ -16,4 +16,5 @@ pub mod rw_words;
 pub mod rw_navigator;
 pub mod rw_findings;
 pub mod rw_text;
+pub mod rw_values;
 pub mod rw_recording;

@@ -94,6 +94,7 @@ impl TestRun {
             }
         };
         names.account = Some(report.account().to_json());
+        names.keep_tasks_told(&report.account().told_of_tasks);
         let call = call.unwrap_or(report.call());
         let (look, more) = match write((&path, self.number), &journal, &names, call) {
             Ok((path, look)) => {
@@ -108,19 +109,21 @@ impl TestRun {
 
     /// Returns the line that says how to make the calls again. Nobody can make those of a lead.
     fn replay_line(&self, path: &Path, names: &Names) -> String {
-        match names.window {
-            Some(_) => String::new(),
-            None => replay_line::of(path, self),
+        if names.window.is_some() {
+            return String::new();
         }
+        // A run that followed a schedule has none of its own: the journal beside that has.
+        let followed = explore::followed().map(|schedule| schedule.with_extension("journal"));
+        replay_line::of(followed.as_deref().unwrap_or(path), self)
     }
 
     /// Says that nothing was recorded, unless others do: the end of a replay, and the session of
     /// the runs that it explores.
     fn nothing_in_words(&self, recorder: &Shared) -> String {
-        if recorder.turns.is_some() || explored().is_some() {
+        if self.is_automatic() || recorder.turns.is_some() || explored().is_some() {
             String::new()
         } else {
-            format!("yovanelum: {}\n", recorder.nothing_line(&self.name))
+            format!("yovanelum: {}\n", self.nothing_line())
         }
     }
 

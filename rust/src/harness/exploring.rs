@@ -18,6 +18,7 @@ mod settings;
 mod shorten;
 
 pub(super) use answer::answer;
+pub(super) use settings::RUNS;
 
 use crate::schedule::explore;
 

@@ -1,15 +1,15 @@
 //! The package that stands for tokio, for the version of tokio that this build has.
 
+mod manifest;
+
 use super::files;
 use crate::harness::program::Program;
+use manifest::{by_git, of_version, packages, value};
 use std::path::Path;
 use std::{fs, io};
 
 /// The package that stands for tokio, which a checkout has beside this one.
 const FACADE: &str = concat!(env!("CARGO_MANIFEST_DIR"), "/tokio-recorded");
-
-/// How its manifest asks for this crate.
-const ASKED_FOR: &str = "yovanelum = { path = \"..\"";
 
 /// Returns the command that runs a test with a package in the place of this build's tokio, and what
 /// to know of it.
@@ -37,6 +37,30 @@ pub(super) fn offer() -> io::Result<String> {
     put(&folder.join("Cargo.toml"), &fitted)?;
     let of_version = format!(" for tokio {version}, as in Cargo.lock");
     Ok(with_patch(&of_version, &folder.to_string_lossy()))
+}
+
+/// Returns the folder of the package that stands for tokio in this build, which has one: that of
+/// the checkout, or the one whose manifest fits the version of tokio that `Cargo.lock` has.
+pub(super) fn folder_of_build() -> String {
+    let program = Program::this();
+    let mut above = program.package_folder.ancestors();
+    let lock = above.find_map(|folder| fs::read_to_string(folder.join("Cargo.lock")).ok());
+    let version = lock.as_deref().and_then(stood_for);
+    let fitted = version.map(|version| {
+        let of_build = program.target_folder.join("yovanelum");
+        of_build.join(format!("tokio-recorded-{version}"))
+    });
+    let fitted = fitted.filter(|folder| folder.join("Cargo.toml").is_file());
+    fitted.map_or_else(
+        || FACADE.to_string(),
+        |folder| folder.to_string_lossy().into_owned(),
+    )
+}
+
+/// Returns the version of the tokio of a lock file that no registry has.
+fn stood_for(lock: &str) -> Option<&str> {
+    let tokio = packages(lock, "tokio").find(|package| value(package, "source").is_none())?;
+    value(tokio, "version")
 }
 
 fn with_patch(of_version: &str, folder: &str) -> String {
@@ -78,38 +102,8 @@ fn fitted(manifest: &str, lock: &str) -> Option<(String, String)> {
     }
     let here = env!("CARGO_MANIFEST_DIR").replace('\\', "/");
     let asked = by_git.unwrap_or_else(|| format!("path = \"{here}\""));
-    let manifest = manifest
-        .replace(own, version)
-        .replace(ASKED_FOR, &format!("yovanelum = {{ {asked}"));
-    let library = format!("[lib]\npath = \"{here}/tokio-recorded/src/lib.rs\"\n");
-    Some((version.to_string(), format!("{manifest}\n{library}")))
-}
-
-/// Returns the packages of this name in a lock file, as their lines. A patch that wasn't used is
-/// none.
-fn packages<'a>(lock: &'a str, name: &'a str) -> impl Iterator<Item = &'a str> {
-    let parts = lock
-        .split("[[")
-        .filter_map(|part| part.strip_prefix("package]]"));
-    parts.filter(move |part| value(part, "name") == Some(name))
-}
-
-/// Returns the value of the first line for a key.
-fn value<'a>(text: &'a str, key: &str) -> Option<&'a str> {
-    text.lines().find_map(|line| {
-        let (name, value) = line.split_once(" = ")?;
-        (name == key).then(|| value.trim_matches('"'))
-    })
-}
-
-/// Returns how a manifest asks for a package by git that has this source in a lock file, such as
-/// `git+ADDRESS?branch=BRANCH#COMMIT`.
-fn by_git(source: &str) -> Option<String> {
-    let (asked, _commit) = source.strip_prefix("git+")?.split_once('#')?;
-    let (address, query) = asked.split_once('?').unwrap_or((asked, ""));
-    let which = query.split('&').filter_map(|part| part.split_once('='));
-    let which = which.map(|(name, value)| format!(", {name} = \"{value}\""));
-    Some(format!("git = \"{address}\"{}", which.collect::<String>()))
+    let fitted = of_version(manifest, version, &asked, &here);
+    Some((version.to_string(), fitted))
 }
 
 #[cfg(test)]
@@ -151,6 +145,13 @@ mod tests {
     }
 
     #[test]
+    fn the_version_that_a_package_without_a_registry_stands_for_is_known() {
+        let patched = lock("", "").replace("source = \"registry+https://example.net/index\"\n", "");
+        assert_eq!(stood_for(&patched), Some("1.24.2"));
+        assert_eq!(stood_for(&lock("", "")), None);
+    }
+
+    #[test]
     fn a_crate_by_git_is_asked_for_as_the_lock_file_has_it() {
         let own = MANIFEST.replace("1.53.2", "1.24.2");
         let sources = [
@@ -180,7 +181,7 @@ mod tests {
         let Ok(manifest) = fs::read_to_string(Path::new(FACADE).join("Cargo.toml")) else {
             return; // A published package has none.
         };
-        assert_eq!(manifest.matches(ASKED_FOR).count(), 1);
+        assert_eq!(manifest.matches(manifest::ASKED_FOR).count(), 1);
         let version = value(&manifest, "version").unwrap();
         assert!(
             manifest.contains(&format!("tag = \"tokio-{version}\"")),

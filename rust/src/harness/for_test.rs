@@ -1,5 +1,6 @@
 //! The recorder of a test, which says what happened if the test fails.
 
+use super::automatic;
 use super::exploring;
 use super::nothing::likely_cause;
 use super::panic_hook;
@@ -8,6 +9,7 @@ use super::watchdog::Watchdog;
 use crate::channels::recorder::{Entered, Recorder};
 use crate::channels::turns::explored;
 use crate::schedule::explore::{self, TestReport};
+use std::fmt;
 use std::ops::Deref;
 use std::panic::{AssertUnwindSafe, Location};
 use std::sync::Arc;
@@ -67,6 +69,7 @@ impl Recorder {
     /// assert_eq!(recorder.len(), 2);
     /// ```
     #[must_use = "dropped at once, it records nothing"]
+    #[track_caller]
     pub fn for_test(name: &str) -> ForTest {
         let recorder = Recorder::of_test(name);
         ForTest {
@@ -101,12 +104,15 @@ impl Recorder {
     /// assert!(!recorder.is_empty());
     /// ```
     #[must_use = "dropped at once, it sees no panic"]
+    #[track_caller]
     pub fn save_on_panic(&self, name: &str) -> SaveOnPanic {
+        automatic::leave_to_test();
         panic_hook::install();
         self.say_if_not_replayed(name);
         exploring::begin(name);
         self.0.go_on_past_limit();
         let test = TestRun::start(&self.0, name);
+        self.0.begin_watching();
         let (recorder, of_run) = (Arc::downgrade(&self.0), Arc::downgrade(&test));
         let report_hung = move || {
             if let Some(test) = of_run.upgrade() {
@@ -178,7 +184,7 @@ impl ForTest {
     /// each_price_arrives().unwrap();
     /// ```
     #[track_caller]
-    pub fn save_on_err<T, E>(&self, result: Result<T, E>) -> Result<T, E> {
+    pub fn save_on_err<T, E: fmt::Debug>(&self, result: Result<T, E>) -> Result<T, E> {
         self.saved.save_on_err(result)
     }
 }
@@ -242,9 +248,9 @@ impl SaveOnPanic {
     /// assert_eq!(saved.save_on_err(chart.try_recv()), Ok(101));
     /// ```
     #[track_caller]
-    pub fn save_on_err<T, E>(&self, result: Result<T, E>) -> Result<T, E> {
-        if result.is_err() {
-            self.test.note_error(Location::caller());
+    pub fn save_on_err<T, E: fmt::Debug>(&self, result: Result<T, E>) -> Result<T, E> {
+        if let Err(error) = &result {
+            self.test.note_error(error, Location::caller());
         }
         result
     }
@@ -252,7 +258,7 @@ impl SaveOnPanic {
     /// Whether the test failed, as far as it has ended.
     fn has_failed(&self) -> bool {
         let has_panicked = thread::panicking() && !self.began_in_panic;
-        has_panicked || self.test.has_returned_error()
+        has_panicked || self.test.has_returned_error() || self.test.is_reported()
     }
 
     /// Whether the test failed, or its journal is to be saved all the same.
@@ -286,5 +292,6 @@ impl Drop for SaveOnPanic {
         } else if !self.began_in_panic && explored().is_none() {
             self.test.say_if_nothing(&self.recorder.0);
         }
+        self.recorder.0.end_watching();
     }
 }

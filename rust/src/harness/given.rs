@@ -32,6 +32,7 @@ use crate::channels::recorder::{Handle, Recorder};
 /// yovanelum::name!(recorder, &orders, "others");
 /// assert!(!recorder.names().contains("others"));
 /// ```
+#[doc(hidden)]
 #[macro_export]
 macro_rules! name {
     ($recorder:expr, $handle:expr, $name:expr $(,)?) => {{
@@ -68,6 +69,7 @@ macro_rules! name {
 /// orders.send(72).unwrap();
 /// assert!(!recorder.names().contains("another order"));
 /// ```
+#[doc(hidden)]
 #[macro_export]
 macro_rules! show {
     ($recorder:expr, $handle:expr, $text:expr $(,)?) => {{

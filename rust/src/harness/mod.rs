@@ -1,6 +1,7 @@
 //! The highest layer: the recorder of a test, what a failing test and a dump write, and the program
 //! that it is all part of.
 
+pub(crate) mod automatic;
 mod ending;
 pub(crate) mod exploring;
 mod facade;
@@ -16,8 +17,11 @@ mod recorded;
 mod replay_line;
 mod replaying;
 mod saved;
+mod seen_panic;
+mod source_names;
 mod stacks;
 mod test_run;
 mod watchdog;
+mod whereabouts;
 mod window_names;
 mod windows;

@@ -1,6 +1,7 @@
 //! The hook that notes the panics of tests, and writes the files of a test where a panic ends the
 //! process.
 
+use super::automatic;
 use super::flight::dump_on_panic;
 use super::test_run::TestRun;
 use crate::channels::lock::lock;
@@ -37,6 +38,7 @@ pub(super) fn install() {
             ended.drain(..).for_each(Ended::print);
         }
         before(info);
+        automatic::report_in_hook();
         ended.into_iter().for_each(Ended::print);
     }));
 }

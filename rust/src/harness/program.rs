@@ -54,6 +54,7 @@ impl Program {
         let package_folder = by_cargo.or_else(by_build);
         let named = env::var("CARGO_PKG_NAME").ok().filter(|_| is_run_by_cargo);
         let package = named.or_else(|| package_name(package_folder.as_deref()?));
+        let package = package.or_else(|| package_by_build(&path));
         let package_folder = package_folder.unwrap_or(here);
         Program {
             target: Target::of(
@@ -69,6 +70,14 @@ impl Program {
             is_run_by_cargo,
             path,
         }
+    }
+
+    /// Returns the sources of the target's crate, if the compiler has left a list of them.
+    pub(crate) fn sources(&self) -> Vec<PathBuf> {
+        let sources = target::sources(&self.path);
+        let some: Vec<_> = sources.iter().map(PathBuf::as_path).collect();
+        let root = self.root_of(&some).unwrap_or_default();
+        sources.iter().map(|source| root.join(source)).collect()
     }
 
     /// Returns the folder that the paths of sources are relative to, of which these are some: that
@@ -99,6 +108,16 @@ fn package_of(target_folder: &Path, crate_root: &Path) -> Option<PathBuf> {
         .map(Path::to_path_buf)
 }
 
+/// Returns the name of the package of the program with this path, by the folder that cargo has for
+/// its build: it has the package's name, and the hash that the program's own name ends with.
+fn package_by_build(program: &Path) -> Option<String> {
+    let hash = target::hash_of(program)?;
+    let folder = program.parent().filter(|it| it.ends_with("deps"))?;
+    let builds = std::fs::read_dir(folder.parent()?.join(".fingerprint")).ok()?;
+    let mut names = builds.filter_map(|it| it.ok()?.file_name().into_string().ok());
+    names.find_map(|name| Some(name.strip_suffix(&hash)?.strip_suffix('-')?.to_string()))
+}
+
 /// Reads the name of a package from its manifest.
 fn package_name(folder: &Path) -> Option<String> {
     let manifest = std::fs::read_to_string(folder.join("Cargo.toml")).ok()?;
@@ -127,6 +146,16 @@ mod tests {
         assert_eq!(name_in(manifest), Some("my-shop".to_string()));
         assert_eq!(name_in("[workspace]\nmembers = []\n"), None);
         assert_eq!(name_in("[package]\n[lib]\nname = \"other\"\n"), None);
+    }
+
+    #[test]
+    #[cfg_attr(target_family = "wasm", ignore = "WebAssembly names no program")]
+    fn the_folder_of_a_build_names_its_package() {
+        let path = &Program::this().path;
+        if target::hash_of(path).is_some() {
+            assert_eq!(package_by_build(path).as_deref(), Some("yovanelum"));
+        }
+        assert_eq!(package_by_build(Path::new("/x/deps/bus")), None);
     }
 
     #[test]

@@ -1,6 +1,7 @@
 //! The line that says how to make the calls of a journal again: a command for the shell, to be run
 //! in the folder in which cargo was run.
 
+use super::automatic;
 use super::test_run::TestRun;
 use crate::channels::recorder::REPLAY;
 use crate::harness::program::{CargoRun, Program, TargetKind};
@@ -10,6 +11,9 @@ use std::path::Path;
 
 /// Returns the line for this journal of a test.
 pub(super) fn of(journal: &Path, test: &TestRun) -> String {
+    if let Some(line) = automatic::replay_line(test, quoted) {
+        return line;
+    }
     let program = Program::this();
     let arguments: Vec<_> = env::args().skip(1).collect();
     let mut words = vec![assigned(REPLAY, &journal.to_string_lossy())];
@@ -96,7 +100,7 @@ fn of_harness(
 
 /// Whether the name of a thread may be that of a test, which is a path of names. The harness may
 /// run a test on the main thread, and a runtime names its threads otherwise.
-fn is_name_of_test(name: &str) -> bool {
+pub(super) fn is_name_of_test(name: &str) -> bool {
     let is_first = |c: char| c.is_alphabetic() || c == '_';
     let is_word = |word: &str| {
         word.starts_with(is_first) && word.chars().all(|c| c.is_alphanumeric() || c == '_')

@@ -179,7 +179,7 @@ impl Shared {
         }
         let is_replay = self.turns.is_some() || explore::followed().is_some();
         if is_replay && self.has_nothing() {
-            say(&self.nothing_line(&test.name));
+            say(&test.nothing_line());
         }
     }
 }
@@ -281,6 +281,7 @@ mod tests {
                 name: name.to_string(),
                 thread: String::new(),
                 nth: 0,
+                patched: false,
             }),
         };
         assert!(named("yovanelum", "yovanelum", "it ends").is_of("it ends"));

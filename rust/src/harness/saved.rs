@@ -1,5 +1,7 @@
 //! The run of a recorder at one moment: its journal, the names beside it, and the calls that wait.
 
+use super::automatic;
+use super::source_names;
 use super::stacks::{self, Frame};
 use super::test_run::TestRun;
 use super::window_names;
@@ -7,7 +9,7 @@ use super::windows::{Calls, Most, Windows};
 use crate::channels::backend::{Actor, Cut, CutFault};
 use crate::channels::channel::{CallSites, ChannelState, KeptChannel};
 use crate::channels::lock::{lock, try_lock_for};
-use crate::channels::recorder::{Shared, Waiting, Why};
+use crate::channels::recorder::{Shared, WaitThen, Waiting, Why};
 use crate::channels::wait::{Awaited, Wait};
 use crate::core::lists::reserved;
 use crate::core::source::rw_law::NoMemory;
@@ -88,6 +90,11 @@ impl Shared {
 }
 
 impl RunSoFar<'_> {
+    /// What the channels of the run share.
+    pub(super) fn recorder(&self) -> &Shared {
+        self.shared
+    }
+
     /// Returns how many calls are recorded.
     pub(super) fn len(&self) -> u64 {
         let entries = self
@@ -242,8 +249,13 @@ impl RunSoFar<'_> {
         let journal = text_of(&run)?;
         if let Some(test) = test {
             test.add_to(&mut names);
+            self.add_waits_at_failure(&mut names, &test.waits_at_failure());
             self.add_last_drops(&mut names);
+            self.add_tasks_seen(&mut names, raised);
             window_names::raise_ending(&mut names, raised);
+        }
+        if automatic::is_under_command() {
+            source_names::add(&mut names, &run);
         }
         names.fit_to(&run, &journal);
         names.add_sources(|paths| Program::this().root_of(paths));
@@ -252,6 +264,26 @@ impl RunSoFar<'_> {
             journal,
             names,
         })
+    }
+
+    /// Adds those of these calls that don't wait any more. A window has no such ones.
+    fn add_waits_at_failure(&self, names: &mut Names, waits: &[WaitThen]) {
+        if names.window.is_some() {
+            return;
+        }
+        for then in waits {
+            let mut channels = (0..).zip(&self.channels);
+            let Some((number, channel)) = channels.find(|(_, it)| then.is_on(it)) else {
+                continue;
+            };
+            let handle = lock(channel).core.nth(then.wait.handle);
+            let index_of = |at: &Location<'_>| names.index_of(&at.into());
+            let call = waiting_call(&then.wait, (number, handle), index_of);
+            if !names.waiting.contains(&call) {
+                names.waited_at_failure.push(call);
+            }
+        }
+        names.waited_at_failure.sort_by_key(|wait| wait.since);
     }
 
     /// Adds where the last sender and the last receiver of each channel were dropped. That reads
@@ -396,26 +428,7 @@ impl Indexes {
 
     /// Describes a call that waits, by the numbers of its channel and handle.
     pub(super) fn waiting(&mut self, wait: &Wait, channel: u64, handle: u64) -> WaitingCall {
-        let held_by = match wait.awaited {
-            Awaited::Value | Awaited::NoReceiver => None,
-            Awaited::Lock(look) => Some(HeldBy {
-                actor: look.map(|look| look.actor.number().into()),
-                location: look
-                    .and_then(|look| look.called_at)
-                    .map(|location| self.of(location)),
-            }),
-        };
-        WaitingCall {
-            actor: wait.actor.number().into(),
-            channel,
-            handle,
-            call: wait.method.name.to_string(),
-            since: wait.since,
-            location: wait.method.called_at.map(|location| self.of(location)),
-            held_by,
-            until: None,
-            waited: None,
-        }
+        waiting_call(wait, (channel, handle), |location| self.of(location))
     }
 
     fn of_all(&mut self, sites: &CallSites) -> Vec<Option<usize>> {
@@ -423,6 +436,33 @@ impl Indexes {
             .iter()
             .map(|site| site.map(|location| self.of(location)))
             .collect()
+    }
+}
+
+/// Describes a call that waits, by the numbers of its channel and handle, and the indexes of its
+/// locations.
+fn waiting_call(
+    wait: &Wait,
+    (channel, handle): (u64, u64),
+    mut index_of: impl FnMut(&'static Location<'static>) -> usize,
+) -> WaitingCall {
+    let held_by = match wait.awaited {
+        Awaited::Value | Awaited::NoReceiver => None,
+        Awaited::Lock(look) => Some(HeldBy {
+            actor: look.map(|look| look.actor.number().into()),
+            location: look.and_then(|look| look.called_at).map(&mut index_of),
+        }),
+    };
+    WaitingCall {
+        actor: wait.actor.number().into(),
+        channel,
+        handle,
+        call: wait.method.name.to_string(),
+        since: wait.since,
+        location: wait.method.called_at.map(index_of),
+        held_by,
+        until: None,
+        waited: None,
     }
 }
 

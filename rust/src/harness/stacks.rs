@@ -3,6 +3,9 @@
 //! What the standard library prints of a backtrace is read, since nothing else of it is offered.
 //! Each frame has a line with its function, and one with its place if the build has such lines.
 //! Where it has none, the first function that is no library's is all that is known.
+//!
+//! What tokio drops of a task, as one that was aborted, has no caller: the frames beyond are of who
+//! runs the tasks. There the function is the one whose future is dropped.
 
 use crate::run::names::SourceLocation;
 use std::backtrace::Backtrace;
@@ -10,6 +13,9 @@ use std::path::Path;
 
 /// What the functions begin with that aren't the program's own.
 const OTHERS: [&str; 6] = ["yovanelum", "tokio", "core", "std", "alloc", "test"];
+
+/// What the functions of tokio begin with that run a task, or drop its future.
+const RUNS_TASKS: [&str; 2] = ["tokio::runtime::task::", "<tokio::runtime::task::"];
 
 /// A frame of a stack.
 #[derive(Debug, PartialEq, Eq)]
@@ -28,10 +34,15 @@ pub(super) fn first_own(stack: &Backtrace, here: &Path) -> Option<Frame> {
 fn first_of_text(text: &str, is_there: impl Fn(&str) -> bool, here: &Path) -> Option<Frame> {
     let mut function = "";
     let mut first = None;
+    let mut dropped = None;
     for line in text.lines().map(str::trim_start) {
         if let Some((_, name)) = line.split_once(": ") {
             function = without_hash(name);
-            if first.is_none() && is_own(function) && function.contains("::") {
+            if RUNS_TASKS.iter().any(|begin| function.starts_with(begin)) {
+                break;
+            }
+            dropped = own_future(function).or(dropped);
+            if first.is_none() && is_own(function) && has_path(function) {
                 first = Some(function);
             }
         } else if let Some(place) = line.strip_prefix("at ") {
@@ -45,9 +56,25 @@ fn first_of_text(text: &str, is_there: impl Fn(&str) -> bool, here: &Path) -> Op
         }
     }
     Some(Frame {
-        function: first?.to_string(),
+        function: first.or(dropped)?.to_string(),
         location: None,
     })
+}
+
+/// Whether a function is named with its path, and not by its name alone, as those of a library that
+/// are inlined.
+fn has_path(function: &str) -> bool {
+    let name = function.trim_start_matches(['<', '&']);
+    name.split('<').next().unwrap_or_default().contains("::")
+}
+
+/// Returns the function of the program whose future is dropped in this one: the compiler calls the
+/// type of a future as the function, with `{{closure}}` behind it.
+fn own_future(function: &str) -> Option<&str> {
+    let dropped = function.strip_prefix("core::ptr::drop_in_place<")?;
+    let future = dropped.strip_suffix(">")?.strip_suffix("::{{closure}}")?;
+    let is_plain = !future.contains(['<', ' ']);
+    (is_plain && is_own(future)).then_some(future)
 }
 
 /// Whether a function is the program's own: neither a library's, nor a method that a library's
@@ -59,7 +86,7 @@ fn is_own(function: &str) -> bool {
 }
 
 /// Returns the name of a function without the number that the compiler adds.
-fn without_hash(function: &str) -> &str {
+pub(super) fn without_hash(function: &str) -> &str {
     match function.rsplit_once("::h") {
         Some((name, hash)) if hash.len() == 16 => name,
         _ => function,
@@ -128,6 +155,38 @@ mod tests {
         // A file that isn't there is another's, as those of the C library.
         let frame = first(STACK, &["src/main.rs"]).unwrap();
         assert_eq!(frame.function, "shop::main");
+    }
+
+    #[test]
+    fn what_a_runtime_drops_of_a_task_has_no_place() {
+        let aborted = "\
+   0: yovanelum::channels::channel::locked::LockedChannel::drop_handle
+             at /home/me/yovanelum/rust/src/channels/channel/locked.rs:300:9
+   1: core::ptr::drop_in_place<tokio::sync::broadcast::Sender<u32>>
+             at /rustc/59807616/library/core/src/ptr/mod.rs:805:1
+   2: core::ptr::drop_in_place<shop::feed::publish::{{closure}}>
+             at /rustc/59807616/library/core/src/ptr/mod.rs:805:1
+   3: core::ptr::drop_in_place<alloc::boxed::Box<shop::feed::publish::{{closure}}>>
+             at /rustc/59807616/library/core/src/ptr/mod.rs:805:1
+   3: set<&mut core::option::Option<shop::feed::publish::{async_block_env#0}>>
+             at /rustc/59807616/library/core/src/pin.rs:1600:9
+   4: tokio::runtime::task::harness::cancel_task
+             at /home/me/.cargo/registry/src/tokio-1.53.2/src/runtime/task/harness.rs:446:15
+   5: shop::main
+             at /home/me/shop/src/main.rs:4:5
+";
+        let wanted = Frame {
+            function: "shop::feed::publish".to_string(),
+            location: None,
+        };
+        assert_eq!(first(aborted, &["src/main.rs"]), Some(wanted));
+        // A drop in the task's own code comes before.
+        let within = aborted.replace(
+            "4: tokio::runtime::task",
+            "4: shop::feed::publish::{{closure}}\n             at ./src/main.rs:9:1\n   5: tokio::runtime::task",
+        );
+        let frame = first(&within, &["src/main.rs"]).unwrap();
+        assert_eq!(frame.location.unwrap().line, 9);
     }
 
     #[test]

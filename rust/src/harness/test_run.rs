@@ -2,15 +2,20 @@
 //! tasks, and the `Err` that it returns.
 
 use super::files;
+use super::seen_panic::SeenPanic;
 use crate::channels::actors;
 use crate::channels::atomic::AtomicU64;
+use crate::channels::cut::start_of;
 use crate::channels::lock::{lock, try_lock_for};
-use crate::channels::recorder::{NotedPanic, PATIENCE, Shared, is_entered};
-use crate::harness::program::Program;
+use crate::channels::recorder::{
+    MOST_BYTES, NotedPanic, PATIENCE, Shared, TestCount, WaitThen, is_entered, next_moment,
+};
+use crate::harness::program::{Program, is_patched};
 use crate::run::names::{Names, Returned, SourceLocation, TestId};
 use std::collections::BTreeMap;
+use std::fmt;
 use std::panic::{Location, PanicHookInfo};
-use std::sync::atomic::Ordering;
+use std::sync::atomic::{AtomicBool, Ordering};
 use std::sync::{Arc, Mutex, Weak};
 use std::thread;
 
@@ -25,26 +30,62 @@ static ALIVE: Mutex<Vec<Weak<TestRun>>> = Mutex::new(Vec::new());
 pub(super) struct TestRun {
     // A recorder that is held would hold its channels open.
     pub(super) recorder: Weak<Shared>,
-    recorder_id: u64,
+    pub(super) recorder_id: u64,
     pub(super) name: String,
     pub(super) thread: String,
     // How many tests this thread has begun under this name before.
     nth: u64,
+    /// When it began, among the channels that belong to no recorder.
+    pub(super) moment: u64,
+    /// Where its recorder was created, or is watched.
+    pub(super) made_at: &'static Location<'static>,
     // The number of the test in this process.
     pub(super) number: u64,
     noted: Mutex<Noted>,
+    // Whether the test has its recorder by itself.
+    is_automatic: AtomicBool,
+    // Whether it was reported at its panic, and not where that unwinds a guard.
+    is_reported: AtomicBool,
+    _count: TestCount,
+}
+
+/// An error that the test returns.
+#[derive(Debug)]
+struct NotedError {
+    text: String,
+    location: SourceLocation,
+    since: u64,
 }
 
 #[derive(Debug, Default)]
 struct Noted {
-    panics: Vec<NotedPanic>,
+    panics: Vec<SeenPanic>,
     // The index of the panic that unwinds the recorder.
     ended_by: Option<usize>,
-    returned: Option<(u64, SourceLocation)>,
+    returned: Option<NotedError>,
 }
 
 /// How many tests each thread has begun, by the names of the thread and of the test.
 static BEGUN: Mutex<BTreeMap<(String, String), u64>> = Mutex::new(BTreeMap::new());
+
+/// How many tests are known by the numbers of their recorders.
+const MOST_NAMES: usize = 1000;
+
+/// The names of the last tests, by the numbers of their recorders.
+static NAMES: Mutex<BTreeMap<u64, String>> = Mutex::new(BTreeMap::new());
+
+fn note_name(recorder: u64, name: &str) {
+    let mut names = lock(&NAMES);
+    names.insert(recorder, name.to_string());
+    if names.len() > MOST_NAMES {
+        names.pop_first();
+    }
+}
+
+/// Returns the name of the test whose recorder has this number, if it is one of the last.
+pub(super) fn name_of(recorder: u64) -> Option<String> {
+    lock(&NAMES).get(&recorder).cloned()
+}
 
 fn name_of_thread() -> String {
     thread::current().name().unwrap_or_default().to_string()
@@ -68,6 +109,7 @@ fn begin_next(name: &str) -> u64 {
 
 impl TestRun {
     /// Begins to note what happens to the test of this name, whose recorder is made on this thread.
+    #[track_caller]
     pub(super) fn start(recorder: &Arc<Shared>, name: &str) -> Arc<TestRun> {
         files::begin();
         static NEXT: AtomicU64 = AtomicU64::new(1);
@@ -77,9 +119,16 @@ impl TestRun {
             name: name.to_string(),
             thread: name_of_thread(),
             nth: begin_next(name),
+            moment: next_moment(),
+            made_at: Location::caller(),
             number: NEXT.fetch_add(1, Ordering::Relaxed),
             noted: Mutex::default(),
+            is_automatic: AtomicBool::new(false),
+            is_reported: AtomicBool::new(false),
+            _count: TestCount::begin(),
         });
+        actors::forget_last_recorder();
+        note_name(recorder.id, name);
         let mut alive = lock(&ALIVE);
         alive.retain(|run| run.strong_count() > 0);
         alive.push(Arc::downgrade(&run));
@@ -101,25 +150,69 @@ impl TestRun {
         let Some(recorder) = self.recorder.upgrade() else {
             return;
         };
-        let panic = NotedPanic::of(info, &recorder);
+        let noted = try_lock_for(&self.noted, PATIENCE);
+        let is_first =
+            noted.is_none_or(|noted| !noted.panics.iter().any(SeenPanic::is_of_this_thread));
+        let panic = SeenPanic::of(info, &recorder, is_first);
         if let Some(mut noted) = try_lock_for(&self.noted, PATIENCE) {
             noted.panics.truncate(MOST_PANICS - 1);
             noted.panics.push(panic);
         }
     }
 
-    /// Notes that the last panic of this thread unwinds the recorder of the test. A task that
-    /// panics on a thread is caught by its runtime, and so it is no panic of that thread.
+    /// Notes that the last panic of this thread unwinds the recorder of the test, but for those
+    /// that a drop has caught. A task that panics on a thread is caught by its runtime, and so it
+    /// is no panic of that thread.
     pub(super) fn note_unwinding(&self) {
         let mut noted = lock(&self.noted);
-        noted.ended_by = noted.panics.iter().rposition(NotedPanic::is_of_this_thread);
+        let may_unwind = |it: &SeenPanic| it.is_of_this_thread() && !it.is_caught_in_drop();
+        let last = noted.panics.iter().rposition(may_unwind);
+        noted.ended_by = last.or_else(|| {
+            let mut panics = noted.panics.iter();
+            panics.rposition(SeenPanic::is_of_this_thread)
+        });
+    }
+
+    /// Returns the calls that waited when the panic began by which the test ended.
+    pub(super) fn waits_at_failure(&self) -> Vec<WaitThen> {
+        let Some(noted) = try_lock_for(&self.noted, PATIENCE) else {
+            return vec![];
+        };
+        let ended_by = noted.ended_by.and_then(|index| noted.panics.get(index));
+        ended_by.map_or_else(Vec::new, |panic| panic.waits.clone())
     }
 
     /// Notes that the test returns an `Err`.
-    pub(super) fn note_error(&self, location: &Location<'_>) {
+    pub(super) fn note_error(&self, error: &dyn fmt::Debug, location: &Location<'_>) {
         if let Some(recorder) = self.recorder.upgrade() {
-            lock(&self.noted).returned = Some((recorder.last(), location.into()));
+            let since = recorder.last();
+            let text = start_of(&format!("{error:?}"), MOST_BYTES).to_string();
+            lock(&self.noted).returned = Some(NotedError {
+                text,
+                location: location.into(),
+                since,
+            });
         }
+    }
+
+    /// Notes that the test has its recorder by itself.
+    pub(super) fn note_automatic(&self) {
+        self.is_automatic.store(true, Ordering::Relaxed);
+    }
+
+    /// Whether the test has its recorder by itself. Then nobody asked that anything be recorded.
+    pub(super) fn is_automatic(&self) -> bool {
+        self.is_automatic.load(Ordering::Relaxed)
+    }
+
+    /// Notes that the test is reported at its panic.
+    pub(super) fn note_report(&self) {
+        self.is_reported.store(true, Ordering::Relaxed);
+    }
+
+    /// Whether the test was reported at its panic.
+    pub(super) fn is_reported(&self) -> bool {
+        self.is_reported.load(Ordering::Relaxed)
     }
 
     /// Whether the test has returned an `Err`.
@@ -132,9 +225,13 @@ impl TestRun {
         try_lock_for(&self.noted, PATIENCE).is_some_and(|noted| !noted.panics.is_empty())
     }
 
-    /// Returns the panics that are noted.
+    /// Returns the panics that are noted, up to the one that ended the test if that is known. Those
+    /// after it are of the unwinding.
     pub(super) fn panics(&self) -> Vec<NotedPanic> {
-        lock(&self.noted).panics.clone()
+        let noted = lock(&self.noted);
+        let count = noted.ended_by.map_or(usize::MAX, |index| index + 1);
+        let panics = noted.panics.iter().take(count);
+        panics.map(|it| it.panic.clone()).collect()
     }
 
     /// Returns which test it is.
@@ -146,6 +243,7 @@ impl TestRun {
             name: self.name.clone(),
             thread: self.thread.clone(),
             nth: self.nth,
+            patched: is_patched(),
         }
     }
 
@@ -155,14 +253,15 @@ impl TestRun {
         let Some(noted) = try_lock_for(&self.noted, PATIENCE) else {
             return;
         };
-        for panic in &noted.panics {
-            panic.add_to(names);
+        for seen in &noted.panics {
+            seen.panic.add_to(names);
         }
         names.ending.ended_by = noted.ended_by;
-        if let Some((since, location)) = &noted.returned {
+        if let Some(error) = &noted.returned {
             names.ending.returned = Some(Returned {
-                location: Some(names.index_of(location)),
-                since: *since,
+                text: error.text.clone(),
+                location: Some(names.index_of(&error.location)),
+                since: error.since,
             });
         }
     }

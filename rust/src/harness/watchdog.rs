@@ -80,7 +80,7 @@ impl TestRun {
     fn report_waiting(&self, recorder: &Shared, why: &str, is_replayed: bool) {
         let path = self.journal_path(recorder);
         let run = recorder.run();
-        let mut told = String::new();
+        let (mut told, mut pending) = (String::new(), vec![]);
         let saved = run.saved(Some(self)).and_then(|saved| {
             let Saved {
                 run,
@@ -91,7 +91,11 @@ impl TestRun {
             let report = Report::on(&run, &names);
             let call = report.as_ref().map_or(0, Report::call);
             told = report.as_ref().map(Report::told_lines).unwrap_or_default();
-            names.account = report.ok().map(|report| report.account().to_json());
+            if let Ok(report) = report {
+                pending = report.pending_lines();
+                names.account = Some(report.account().to_json());
+                names.keep_tasks_told(&report.account().told_of_tasks);
+            }
             ending::write((&path, self.number), &journal, &names, call)
         });
         let name = &self.name;
@@ -115,6 +119,9 @@ impl TestRun {
                 lines.push_str(&format!("yovanelum: and {} more\n", count - LISTED));
             }
             _ => {}
+        }
+        for line in pending {
+            lines.push_str(&format!("yovanelum: {line}\n"));
         }
         lines.push_str(&told);
         if let Ok((path, look)) = saved {

@@ -6,6 +6,7 @@
 //! another reason. `docs/use/ACCOUNT.md` in the repository has each form.
 
 pub(crate) mod against;
+mod asked;
 mod closings;
 mod columns;
 mod fact;
@@ -14,9 +15,15 @@ mod failure;
 mod finding;
 mod history;
 mod json;
+mod last_change;
+mod lateness;
+mod locked;
 mod losses;
+mod marking;
 mod naming;
+mod nothing_came;
 mod panicked;
+mod reading;
 mod rest;
 mod saying;
 mod silence;
@@ -25,6 +32,7 @@ mod tests;
 mod times;
 mod traffic;
 mod unknown;
+mod value;
 pub(crate) mod visible;
 mod waits;
 mod watches;
@@ -32,8 +40,9 @@ mod window;
 #[cfg(test)]
 mod windowed;
 
-pub(crate) use fact::{Fact, FactStep, Role};
+pub(crate) use fact::{Fact, FactStep, Level, Role};
 pub(crate) use failed::Failed;
+pub(crate) use lateness::PendingTask;
 pub(crate) use rest::Rest;
 pub(crate) use saying::Saying;
 pub(crate) use waits::WaitAtEnd;
@@ -43,13 +52,14 @@ use crate::run::names::{Names, SourceLocation};
 use failure::{Failure, FailureAt};
 use finding::{Finding, orders};
 use history::History;
+use lateness::Lateness;
 use naming::Naming;
 use times::WindowTimes;
 use traffic::Traffic;
 use window::WindowSaid;
 
 /// How many facts a report tells in full. The others are counted.
-pub(crate) const MOST_TOLD: usize = 3;
+const MOST_TOLD: usize = 3;
 
 /// How many facts have words. Those beyond are counted alone.
 const MOST_FACTS: usize = 100;
@@ -64,13 +74,14 @@ struct Context<'a> {
     failure: &'a Failure,
     findings: &'a Findings,
     traffic: &'a Traffic,
+    lateness: Lateness<'a>,
 }
 
 impl Context<'_> {
-    /// Returns the text of the panic that ended the test.
+    /// Returns the text of the panic that ended the test, or of the error that it returned.
     fn failure_text(&self) -> Option<&str> {
-        let panic = self.failure.end()?.panic?;
-        Some(&self.names.ending.panics[panic].text)
+        let end = self.failure.end()?;
+        end.text(self.names)
     }
 
     /// Returns who panicked.
@@ -111,6 +122,12 @@ impl Context<'_> {
             Some((_, function)) if said.is_empty() => format!("in {function}"),
             _ => said,
         };
+        let is_cancelled = role == Role::Close && self.is_cancelled(place, &entry);
+        let said = match (is_cancelled, said.is_empty()) {
+            (true, true) => "cancelled".to_string(),
+            (true, false) => format!("cancelled {said}"),
+            (false, _) => said,
+        };
         let time = self.times.at(entry.stamp);
         let said = match time {
             Some(time) if said.is_empty() => time.text(),
@@ -131,6 +148,12 @@ impl Context<'_> {
                 said,
             ],
         }
+    }
+
+    /// Returns the call with this number as a step, as it was called.
+    fn call_step(&self, place: u64, role: Role, said: String) -> FactStep {
+        let call = self.naming.call(place, &self.run.entry(place));
+        self.step(place, role, call, said)
     }
 
     /// Returns where the drop that led to this place was made, if it is that of the last sender or
@@ -158,6 +181,25 @@ impl Context<'_> {
         let places = self.names.dropped_at.get(&entry.channel.into());
         let place = places.and_then(|places| self.naming.source(*places.get(&which)?));
         Some((place, visible::path(function)))
+    }
+
+    /// Returns who dropped a handle, and how: `clerk dropped`, or `clerk was cancelled and
+    /// dropped`.
+    fn who_dropped(&self, place: u64) -> String {
+        let entry = self.run.entry(place);
+        let who = self.naming.actor(entry.actor.into());
+        if self.is_cancelled(place, &entry) {
+            format!("{who} was cancelled and dropped")
+        } else {
+            format!("{who} dropped")
+        }
+    }
+
+    /// Whether the call that led to a place was made by the drop of a task that hadn't ended.
+    fn is_cancelled(&self, place: u64, entry: &RunEntry) -> bool {
+        let cancelled = self.names.matching.cancelled.get(&entry.channel.into());
+        let index = self.history.index_on_channel(place) as u64;
+        cancelled.is_some_and(|indexes| indexes.binary_search(&index).is_ok())
     }
 
     /// Returns what caused a fact before the window as its step: at the place where that begins.
@@ -232,6 +274,10 @@ pub(crate) struct Account {
     /// What is said where no value was lost.
     pub(crate) nothing: Option<String>,
     pub(crate) waiting: Vec<WaitAtEnd>,
+    /// The tasks that wait for something else, where the run hangs or failed since a call waited.
+    pub(crate) pending: Vec<PendingTask>,
+    /// The stamps between which the account says something about tasks.
+    pub(crate) told_of_tasks: Vec<(u64, u64)>,
     losses: Vec<Loss>,
     // The place of what ended the test.
     failure: Option<u64>,
@@ -242,6 +288,12 @@ pub(crate) struct Account {
 }
 
 impl Account {
+    /// Returns the facts in their order, as many as have words, with their levels.
+    pub(crate) fn with_levels(&self) -> impl Iterator<Item = (Level, &Fact)> {
+        let facts = self.facts.iter().enumerate();
+        facts.map(|(index, fact)| (fact.level(index == 0, self.failed.is_some()), fact))
+    }
+
     /// Makes the account of the run of this journal text.
     ///
     /// # Errors
@@ -301,6 +353,7 @@ impl Account {
             failure: &Failure::of(run, names, history),
             findings,
             traffic,
+            lateness: Lateness::of(run, names, history),
         };
         let found = Finding::all(&context);
         let unknown = unknown::lines(&context);
@@ -323,9 +376,21 @@ impl Account {
             rest: Rest::of(&found),
             waiting: waits::all(&context, &found[..Finding::told_in_full(&found)]),
             losses: context.traffic.losses().iter().map(|it| it.loss).collect(),
+            pending: if has_waited(&context, &found) {
+                lateness::pending(&context)
+            } else {
+                vec![]
+            },
+            told_of_tasks: context.lateness.into_spans(),
             root: names.ending.root.clone(),
         }
     }
+}
+
+/// Whether a run hangs, or what is found tells of a call that waited.
+fn has_waited(context: &Context<'_>, found: &[Finding]) -> bool {
+    let told = &found[..Finding::told_in_full(found)];
+    context.names.ending.hangs || told.iter().any(|it| it.order() == orders::WAITED)
 }
 
 /// Whether a fact says what failed, or that sends reached nobody.

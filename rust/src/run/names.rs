@@ -10,13 +10,18 @@ mod json;
 mod matching;
 mod reading;
 mod sources;
+mod tasks_seen;
 mod window;
 
 pub use beside::read_whole;
 pub(crate) use beside::test_beside;
 pub(crate) use ending::{Ending, Panic, Returned, TestId, Unrecorded, checksum};
-pub(crate) use json::Json;
+#[doc(hidden)]
+pub use json::Json;
+#[doc(hidden)]
+pub use json::read as read_json;
 pub(crate) use matching::{Maker, Matching};
+pub(crate) use tasks_seen::{SeenPlace, SeenPoll, SeenTask, SeenWake, TasksSeen, WokenBy};
 pub(crate) use window::{ChannelWindow, WindowNames};
 
 use crate::run::clock::Moment;
@@ -29,9 +34,12 @@ use std::panic::Location;
 /// The version of the format that is written. A document of version 1 has no such key.
 const VERSION: u64 = 3;
 
-/// The version that is written of a journal with the last calls alone, and the last one that is
-/// read. Who reads no later one than 3 would take a lead for calls that were made.
+/// The version that is written of a journal with the last calls alone. Who reads no later one than
+/// 3 would take a lead for calls that were made.
 const VERSION_OF_WINDOW: u64 = 4;
+
+/// The version that is written with what was seen of tasks, and the last one that is read.
+const VERSION_OF_TASKS: u64 = 5;
 
 /// A location in a source: the file as the compiler was given it, with the line and the column,
 /// which count from 1.
@@ -103,6 +111,9 @@ pub(crate) struct Names {
     /// Where each actor that is a task without a name made its first call.
     pub(crate) tasks: BTreeMap<u64, usize>,
     pub(crate) waiting: Vec<WaitingCall>,
+    /// The calls that waited when the test failed, and ended after that: its unwinding closed their
+    /// channels, or dropped them.
+    pub(crate) waited_at_failure: Vec<WaitingCall>,
     /// The last calls of each channel that were dropped while they waited.
     pub(crate) dropped_waits: Vec<WaitingCall>,
     pub(crate) matching: Matching,
@@ -115,6 +126,8 @@ pub(crate) struct Names {
     pub(crate) dropped_in: BTreeMap<u64, BTreeMap<u64, String>>,
     /// When calls were made, by their stamps.
     pub(crate) times: Vec<Moment>,
+    /// What was seen of the tasks of a test.
+    pub(crate) tasks_seen: Option<TasksSeen>,
     /// The account of the run as JSON, for readers that don't find it themselves. It is written and
     /// never read.
     pub(crate) account: Option<String>,
@@ -139,7 +152,8 @@ impl Names {
         }
         self.calls.retain(|_, calls| !calls.is_empty());
         let dropped = self.dropped_waits.iter_mut();
-        let waits = self.waiting.iter_mut().chain(dropped);
+        let waits = self.waiting.iter_mut().chain(&mut self.waited_at_failure);
+        let waits = waits.chain(dropped);
         let waits = waits.flat_map(|wait| iter::once(&mut wait.since).chain(&mut wait.until));
         let panics = self.ending.panics.iter_mut().map(|panic| &mut panic.since);
         let returned = self.ending.returned.iter_mut().map(|it| &mut it.since);
@@ -147,6 +161,14 @@ impl Names {
             *since = run.last_stamp(*since);
         }
         self.ending.journal = Some(checksum(journal.as_bytes()));
+    }
+
+    /// Leaves out what was seen of tasks and isn't between these stamps, but for the last poll of
+    /// each.
+    pub(crate) fn keep_tasks_told(&mut self, spans: &[(u64, u64)]) {
+        if let Some(seen) = &mut self.tasks_seen {
+            seen.keep(spans);
+        }
     }
 
     /// Returns the document. What is empty is left out, unless version 1 had it.
@@ -158,9 +180,10 @@ impl Names {
 
     /// Appends the document.
     pub(crate) fn push_json(&self, out: &mut String) {
-        let version = match self.window {
-            Some(_) => VERSION_OF_WINDOW,
-            None => VERSION,
+        let version = match (&self.tasks_seen, &self.window) {
+            (Some(_), _) => VERSION_OF_TASKS,
+            (None, Some(_)) => VERSION_OF_WINDOW,
+            (None, None) => VERSION,
         };
         let _ = write!(out, "{{\n  \"version\": {version}");
         push_member(out, "actors", |out| push_texts(out, &self.actors));
@@ -174,6 +197,9 @@ impl Names {
         self.push_drops(out);
         self.ending.push(out);
         window::push(out, self.window.as_ref(), &self.times);
+        if let Some(seen) = &self.tasks_seen {
+            tasks_seen::push(out, seen);
+        }
         if let Some(account) = &self.account {
             push_member(out, "account", |out| push_nested(out, account));
         }
@@ -223,6 +249,11 @@ impl Names {
         if !self.waiting.is_empty() {
             push_member(out, "waiting", |out| {
                 push_list(out, &self.waiting, push_waiting)
+            });
+        }
+        if !self.waited_at_failure.is_empty() {
+            push_member(out, "waited_at_failure", |out| {
+                push_list(out, &self.waited_at_failure, push_waiting)
             });
         }
         if !self.dropped_waits.is_empty() {

@@ -11,7 +11,7 @@ mod workflow;
 pub(crate) use sarif::sarif;
 
 use crate::run::account::visible::{self, first, path};
-use crate::run::account::{Account, Fact, MOST_TOLD};
+use crate::run::account::{Account, Fact, Level};
 use crate::run::journal::{Run, TextFault};
 use crate::run::names::{Names, SourceLocation};
 use colours::Colours;
@@ -19,14 +19,14 @@ use std::env;
 use std::io::IsTerminal;
 use workflow::Workflow;
 
-/// The level of each fact that is told in full.
-const LEVELS: [&str; MOST_TOLD] = ["error", "warning", "warning"];
-
-/// The level of a fact that is usual in a test that passes.
-const USUAL: &str = "warning";
-
 /// How many calls that wait are told.
 const SHOWN_WAITS: usize = 3;
+
+/// How many tasks are told that wait for something else.
+const SHOWN_TASKS: usize = 8;
+
+/// Where the line of such a task begins.
+const TASK_WAITS: &str = "waits:";
 
 /// The account of a run, to be printed.
 #[derive(Debug)]
@@ -90,13 +90,9 @@ impl Report {
     }
 
     /// Returns the facts that are told in full, with their levels.
-    fn told(&self) -> impl Iterator<Item = (&'static str, &Fact)> {
+    fn told(&self) -> impl Iterator<Item = (Level, &Fact)> {
         let Report(account) = self;
-        let facts = account.facts.iter().take(account.rest.after);
-        facts.zip(LEVELS).map(|(fact, level)| {
-            let level = if fact.is_usual() { USUAL } else { level };
-            (level, fact)
-        })
+        account.with_levels().take(account.rest.after)
     }
 
     /// Returns the lines that say why there is a dump, and what isn't known.
@@ -124,7 +120,24 @@ impl Report {
         let waiting = format!("{label} {}", first(&waits, SHOWN_WAITS, "; "));
         let waiting = (!waits.is_empty()).then_some(waiting);
         let lines = account.rest.text().into_iter();
-        lines.chain(nothing).chain(waiting).collect()
+        let pending = self.pending_lines().into_iter().map(|line| {
+            let task = line.strip_prefix(TASK_WAITS).unwrap_or(&line);
+            format!("{}{task}", colours.waiting(TASK_WAITS))
+        });
+        lines.chain(nothing).chain(waiting).chain(pending).collect()
+    }
+
+    /// Returns the lines of the tasks that wait for something else than a call of a channel, if the
+    /// run hangs or failed since a call waited.
+    pub(crate) fn pending_lines(&self) -> Vec<String> {
+        let Report(account) = self;
+        let tasks = account.pending.iter().take(SHOWN_TASKS);
+        let mut lines: Vec<_> = tasks
+            .map(|task| format!("{TASK_WAITS} {}", task.text))
+            .collect();
+        let more = account.pending.len().saturating_sub(SHOWN_TASKS);
+        lines.extend((more > 0).then(|| format!("{TASK_WAITS} and {more} more")));
+        lines
     }
 
     /// Returns the commands for the workflow that runs this program, if one does.
@@ -141,8 +154,8 @@ impl Report {
 
 /// Appends the lines of a fact. The first one has both its places in the sources on lines of their
 /// own, and the others have one.
-fn push_fact(lines: &mut Vec<String>, fact: &Fact, level: &str, colours: Colours) {
-    let is_first = level == LEVELS[0];
+fn push_fact(lines: &mut Vec<String>, fact: &Fact, level: Level, colours: Colours) {
+    let is_first = level == Level::Error;
     let head = colours.head(&fact.head);
     lines.push(format!("{} {head}", colours.level(level)));
     let mut sights = fact.sights();
@@ -155,7 +168,10 @@ fn push_fact(lines: &mut Vec<String>, fact: &Fact, level: &str, colours: Colours
     let others = fact.text().into_iter().skip(1);
     lines.extend(others.map(|line| match line.strip_prefix("  lost:") {
         Some(lost) => format!("  {}{lost}", colours.lost("lost:")),
-        None => line,
+        None => match line.strip_prefix("  late:") {
+            Some(late) => format!("  {}{late}", colours.lost("late:")),
+            None => line,
+        },
     }));
 }
 

@@ -30,3 +30,8 @@
 //! ```
 
 pub mod wrappers;
+
+// Runs the program of the README.
+#[cfg(doctest)]
+#[doc = include_str!("../README.md")]
+struct Readme;

@@ -5,8 +5,8 @@ use crate::support::{debugged, poll_once, temporary};
 use yovanelum::broadcast::{self, error::RecvError};
 use yovanelum::{Recorder, block_on, named};
 
-/// Returns what `ttd debug` writes for these commands over the journal so far, if the variable
-/// `YOVANELUM_TTD` names the program.
+/// Returns what `ttd debug` writes for these commands over the journal so far, or `None` where no
+/// program can be started.
 fn walked(recorder: &Recorder, commands: &str) -> Option<String> {
     let path = temporary::path("bus.journal");
     recorder.save(&path).unwrap();

@@ -62,6 +62,27 @@ fn each_of_many_tasks_has_its_own_name_as_long_as_its_calls_are_stored() {
     assert_eq!((&*last.0, &*last.1), ("request 999", "request 999"));
 }
 
+#[test]
+#[cfg_attr(target_family = "wasm", ignore = "WebAssembly has no threads")]
+fn a_number_of_a_thread_without_a_name_is_named_once_it_is_given_to_another() {
+    let recorder = Recorder::new();
+    let _entered = recorder.enter();
+    thread::scope(|scope| {
+        let without_name = scope.spawn(|| {
+            let _entered = recorder.enter();
+            send_on(&recorder, "nobody's");
+        });
+        without_name.join().unwrap();
+    });
+    assert!(recorder.names().contains("\"unnamed\": ["));
+    for request in 0..300 {
+        let name = format!("request {request}");
+        block_on(named(&name, async { send_on(&recorder, &name) }));
+    }
+    let names = recorder.names();
+    assert!(!names.contains("\"unnamed\""), "{names}");
+}
+
 /// Polls a future once.
 fn poll(future: Pin<&mut impl Future<Output = ()>>) -> Poll<()> {
     future.poll(&mut Context::from_waker(Waker::noop()))

@@ -1,8 +1,10 @@
 //! What a recorder records, and at which limits recording ends.
 
-use crate::support::named::checksum;
-use crate::support::{accepted, kept_journal, poll_once, temporary};
+use crate::support::named::{checksum, member};
+use crate::support::{accepted, console, kept_journal, poll_once, temporary};
+use std::ffi::OsString;
 use std::fs;
+use std::path::Path;
 use std::process::Command;
 use std::thread;
 use yovanelum::{Recorder, broadcast, named, watch};
@@ -32,6 +34,19 @@ fn the_journal_of_a_run() {
     let number = start.rfind('\n').unwrap() + 1;
     assert_eq!(format!("{}9{end}", &start[..number]), wanted);
     assert_eq!(accepted(&recorder, "run"), 8);
+}
+
+#[test]
+fn the_program_that_judges_journals_is_the_named_one_or_that_of_the_checkout() {
+    let (built, named) = (std::env::current_exe().unwrap(), OsString::from("named"));
+    assert_eq!(console::chosen(Some(named), Some(&built)), "named");
+    assert_eq!(console::chosen(None, Some(&built)), built);
+}
+
+#[test]
+#[should_panic(expected = "no program judges this journal: set YOVANELUM_TTD to a `ttd`, such as")]
+fn a_test_that_has_no_program_to_judge_its_journal_fails() {
+    console::chosen(None, Some(Path::new("no/such/ttd")));
 }
 
 #[test]
@@ -85,6 +100,8 @@ fn what_a_cancelled_future_drops_is_dropped_by_its_actor() {
     // The cancelled future is the second actor. The thread is still the first.
     assert!(journal.contains("\n2 1 0 drop 1 = dropped\n"), "{journal}");
     assert!(journal.contains("\n4 0 0 drop 2 = dropped\n"), "{journal}");
+    // Of its two drops of receivers and senders, only the future's is one of a cancelled future.
+    assert_eq!(member(&recorder.names(), "cancelled"), r#"{"0": [1]}"#);
 }
 
 #[test]

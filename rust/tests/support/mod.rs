@@ -69,14 +69,13 @@ pub fn kept_journal(name: &str) -> PathBuf {
 }
 
 /// Asserts that the proved debugger, `ttd check`, accepts the journal, and returns the number of
-/// its entries. The variable `YOVANELUM_TTD` names the program. Without it the entries are only
-/// counted.
+/// its entries. Where no program can be started, the entries are only counted.
 pub fn accepted(recorder: &Recorder, name: &str) -> u64 {
     let path = temporary::path(&format!("{name}.journal"));
     recorder.save(&path).unwrap();
     let text = std::fs::read_to_string(&path).unwrap();
     let entries = text.lines().filter(|line| line.contains(" = ")).count() as u64;
-    if let Some(ttd) = std::env::var_os("YOVANELUM_TTD") {
+    if let Some(ttd) = console::ttd() {
         let judged = Command::new(ttd).arg("check").arg(&path).output().unwrap();
         assert_eq!(
             String::from_utf8_lossy(&judged.stdout),
@@ -102,9 +101,8 @@ pub fn saved_names(recorder: &Recorder, name: &str) -> String {
     names
 }
 
-/// Returns what `ttd debug` writes for these commands over a journal, if the variable
-/// `YOVANELUM_TTD` names the program.
+/// Returns what `ttd debug` writes for these commands over a journal, or `None` where no program
+/// can be started.
 pub fn debugged(journal: &Path, commands: &str) -> Option<String> {
-    let ttd = std::env::var_os("YOVANELUM_TTD")?;
-    Some(console::written(&ttd, journal, commands))
+    console::ttd().map(|ttd| console::written(&ttd, journal, commands))
 }

@@ -84,12 +84,15 @@ pub(crate) async fn blocked_on<F: Future>(future: F) -> F::Output {
 
 /// Runs a future on which a thread blocks. A replay holds its polls back as those of tasks.
 pub(crate) async fn held<F: Future>(future: F) -> F::Output {
+    // Before the future, so that it is dropped after it.
+    let _blocked = yovanelum::BlockedOn::new();
     let mut future = pin!(future);
+    let mut seen = yovanelum::BlockedTask::default();
     let poll = |context: &mut Context<'_>| {
         if yovanelum::is_thread_held(context) {
             Poll::Pending
         } else {
-            future.as_mut().poll(context)
+            seen.poll(context, |context| future.as_mut().poll(context))
         }
     };
     poll_fn(poll).await

@@ -36,6 +36,29 @@ pub mod task {
 #[cfg(feature = "sync")]
 pub mod sync {
     pub use real_tokio::sync::*;
-    // A name that is imported by itself is taken before one of a glob.
-    pub use yovanelum::{broadcast, watch};
+
+    /// tokio's `broadcast`, recorded.
+    pub mod broadcast {
+        // A name that is here is taken before one of a glob.
+        pub use yovanelum::broadcast::*;
+
+        /// As tokio's own.
+        #[track_caller]
+        pub fn channel<T: Clone>(capacity: usize) -> (Sender<T>, Receiver<T>) {
+            yovanelum::record_tests();
+            yovanelum::broadcast::channel(capacity)
+        }
+    }
+
+    /// tokio's `watch`, recorded.
+    pub mod watch {
+        pub use yovanelum::watch::*;
+
+        /// As tokio's own.
+        #[track_caller]
+        pub fn channel<T>(init: T) -> (Sender<T>, Receiver<T>) {
+            yovanelum::record_tests();
+            yovanelum::watch::channel(init)
+        }
+    }
 }

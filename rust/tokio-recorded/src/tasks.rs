@@ -9,14 +9,17 @@ use std::hash::{Hash, Hasher};
 use std::pin::Pin;
 use std::sync::atomic::{AtomicUsize, Ordering};
 use std::task::{Context, Poll};
-use yovanelum::{set_patch, set_task_id};
+use yovanelum::{record_tests, set_patch, set_task_id};
 
-/// Tells yovanelum how to know the current task and its budget, and that this package is part of
-/// the build.
+/// Tells yovanelum how to know the current task and its budget, that this package is part of the
+/// build, and that a test of this thread may begin.
 pub(crate) fn tell_apart() {
     set_task_id(current);
     budget::tell();
+    #[cfg(feature = "time")]
+    yovanelum::set_clock(|| real_tokio::time::Instant::now().into_std());
     set_patch(env!("CARGO_MANIFEST_DIR"));
+    record_tests();
 }
 
 /// In the place of tokio's `task::Id`, where it says of no task that it is the current one.

@@ -126,3 +126,8 @@ pub fn close(close: &Close) {
         "{close}"
     );
 }
+
+// Runs the program of the README.
+#[cfg(doctest)]
+#[doc = include_str!("../README.md")]
+struct Readme;

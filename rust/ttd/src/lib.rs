@@ -13,6 +13,7 @@ pub mod shim;
 #[rustfmt::skip]
 #[path = "../../src/core/source/program.rs"]
 pub mod source;
+mod standard_streams;
 
 /// Runs the program on the process's words, files and streams, and returns its exit status.
 pub fn run() -> u8 {

@@ -13,8 +13,8 @@
 //! # Where refused memory ends the process
 //!
 //! A refused allocation is an error, except where Rust's own library or one of the crates
-//! allocates. There it ends the process by `abort`, after a line on standard error. What was
-//! written before is the front of the output.
+//! allocates. There it ends the process by `abort`, after Rust's message on standard error. What
+//! was written before is the front of the output.
 //!
 //! Before any output, in Rust's library:
 //!
@@ -36,9 +36,9 @@
 //!
 //! # Where Rust differs
 //!
-//! If a standard stream is closed when the program starts, Rust's runtime opens `/dev/null` in its
-//! place. So a closed standard input is an empty one, and output to a closed standard output is
-//! lost without a fault.
+//! Rust's runtime hides that a standard stream is closed, or open the other way alone. So
+//! `standard_streams.rs` looks at them before it, on Linux, macOS and the BSDs. On others a closed
+//! standard input is an empty one, and output to a closed standard output is lost without a fault.
 
 #![forbid(unsafe_code)]
 
@@ -71,7 +71,7 @@ pub mod serde_json;
 pub mod sync;
 pub mod thread;
 
-use crate::large_pages;
+use crate::{large_pages, standard_streams};
 
 pub use ::itoa;
 pub use boxed::Box;

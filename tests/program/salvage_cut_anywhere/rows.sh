@@ -4,7 +4,7 @@ for version in 1 2; do
   text="ttd-journal $version/broadcast 4/steps/1 0 0 send 0 7 = sent 1/2 0 0 try-recv 1 = value 7/3 0 0 drop 0 = dropped/end/"
   for ((length = 32; length <= ${#text}; length++)); do
     if [ "$length" -lt 56 ]; then
-      entries= kept=32
+      entries='' kept=32
     elif [ "$length" -lt 83 ]; then
       entries='1 0 0 send 0 7 = sent 1/' kept=56
     elif [ "$length" -lt 106 ]; then

@@ -27,14 +27,27 @@ fn the_log_is_read() {
         .name(&idle, "idle");
     recorder.show(&jobs, |job| format!("job {job}"));
     jobs.send(1).unwrap();
-    assert_eq!(log.try_recv(), Ok(1));
+    let read = Vec::from_iter(log.try_recv());
     for job in 2..=4 {
         jobs.send(job).unwrap(); // a job is sent
     }
     drop(log);
     // It is never dropped.
     std::mem::forget(idle);
-    assert_eq!(jobs.len(), 3); // the jobs are counted
+    assert_eq!(read, [1, 2, 3, 4]); // the jobs are counted
+}
+
+// The channel retains one value, so two of the three were overwritten: no receive is needed for that.
+#[test]
+fn three_jobs_are_left() {
+    let recorder = Recorder::for_test("three_jobs_are_left");
+    let (jobs, slow) = broadcast::channel(1);
+    recorder.name(&jobs, "jobs").name(&slow, "slow");
+    recorder.show(&jobs, |job| format!("job {job}"));
+    for job in 1..=3 {
+        jobs.send(job).unwrap(); // a job is left
+    }
+    assert_eq!(jobs.len(), 3); // the length is asked
 }
 
 #[test]

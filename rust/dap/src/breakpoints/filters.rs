@@ -53,15 +53,15 @@ impl Filter {
 impl Breakpoints {
     pub(crate) fn set_exceptions(
         &mut self,
-        given: Arguments<'_>,
+        all: Arguments<'_>,
         recording: &mut Recording,
     ) -> Answer {
         let nothing = Value::Null;
-        let plain = given.texts("filters")?.into_iter();
+        let plain = all.texts("filters")?.into_iter();
         let mut wanted: Vec<_> = plain
             .map(|id| Ok((id, Arguments::of(&nothing)?)))
             .collect::<Answer<_>>()?;
-        for option in given.objects("filterOptions")? {
+        for option in all.objects("filterOptions")? {
             wanted.push((option.need_text("filterId")?, option));
         }
         let mut asked = vec![];
@@ -73,7 +73,8 @@ impl Breakpoints {
                 told: json!({}),
             });
         }
-        self.replace("exceptions".to_string(), asked, recording)
+        let set = ("exceptions".to_string(), "setExceptionBreakpoints");
+        self.replace(set, all, asked, recording)
     }
 }
 

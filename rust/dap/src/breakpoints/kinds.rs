@@ -8,6 +8,10 @@ use crate::sources::Bases;
 use crate::{Answer, Refusal};
 use serde_json::{Value, json};
 use yovanelum::debugger::Condition;
+use yovanelum::debugger::recorded::NamedCondition;
+
+/// The words of conditions on calls, which aren't of data.
+const OF_CALLS: [&str; 3] = ["actor", "channel", "reply"];
 
 impl Breakpoints {
     /// Sets those of a source. A line without calls moves to the next one that has some.
@@ -41,7 +45,8 @@ impl Breakpoints {
             Some(path) => path.to_string(),
             None => file.unwrap_or_default(),
         };
-        self.replace(format!("source {name}"), asked, recording)
+        let set = (format!("source {name}"), "setBreakpoints");
+        self.replace(set, given, asked, recording)
     }
 
     /// Sets those of functions: `orders.send`, `audit.recv` or `send`.
@@ -59,15 +64,16 @@ impl Breakpoints {
                 told: json!({}),
             });
         }
-        self.replace("functions".to_string(), asked, recording)
+        let set = ("functions".to_string(), "setFunctionBreakpoints");
+        self.replace(set, given, asked, recording)
     }
 
     /// Sets those of data: each is a condition of the console. A last word `N` stands for a number
     /// that the client gives as the condition.
-    pub(crate) fn set_data(&mut self, given: Arguments<'_>, recording: &mut Recording) -> Answer {
+    pub(crate) fn set_data(&mut self, all: Arguments<'_>, recording: &mut Recording) -> Answer {
         let mut asked = vec![];
         let nothing = Value::Null;
-        for breakpoint in given.objects("breakpoints")? {
+        for breakpoint in all.objects("breakpoints")? {
             let id = breakpoint.need_text("dataId")?;
             let number = breakpoint.text("condition")?;
             let (id, given) = match id.strip_suffix('N') {
@@ -80,14 +86,12 @@ impl Breakpoints {
             asked.push(Asked {
                 given,
                 reason: "data breakpoint",
-                hits: id.parse().map_or_else(
-                    |_| Err(format!("`{id}` can't be watched")),
-                    |condition| Ok(hits_of(&condition, recording)),
-                ),
+                hits: condition_of(&id, recording).map(|condition| hits_of(&condition, recording)),
                 told: json!({}),
             });
         }
-        self.replace("data".to_string(), asked, recording)
+        let set = ("data".to_string(), "setDataBreakpoints");
+        self.replace(set, all, asked, recording)
     }
 }
 
@@ -137,6 +141,17 @@ fn places_of_function(name: &str, recording: &Recording) -> Result<Places, Strin
     } else {
         Ok(places)
     }
+}
+
+/// Returns the condition that data are watched by, if the run has these data.
+fn condition_of(id: &str, recording: &Recording) -> Result<Condition, String> {
+    let read: Option<NamedCondition> = id.parse().ok();
+    let is_of_call = |word| OF_CALLS.contains(&word);
+    let read = read.filter(|_| !id.split(' ').next().is_some_and(is_of_call));
+    let read = read.ok_or_else(|| format!("`{id}` can't be watched"))?;
+    let is_there = Some(&read).filter(|it| it.is_of(&recording.things));
+    let condition = is_there.and_then(|it| it.by_numbers(&recording.things));
+    condition.ok_or_else(|| format!("this run has nothing that `{id}` is of"))
 }
 
 /// Returns the places at which a condition becomes true.

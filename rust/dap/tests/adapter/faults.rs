@@ -79,7 +79,7 @@ fn names_that_do_not_fit_are_left_out_and_changed_sources_are_said() {
     for (changed, said) in [
         (
             names.replace("\"version\": 3", "\"version\": 9"),
-            "its `version`: 9 is later than 4, the last one that this program reads",
+            "its `version`: 9 is later than 5, the last one that this program reads",
         ),
         (
             with_checksum(&names, "journal"),
@@ -237,8 +237,9 @@ fn the_newest_journal_is_found_by_the_name_of_its_test() {
         let file = fs::File::options().write(true).open(&journal).unwrap();
         file.set_modified(time).unwrap();
     }
-    let state = |arguments: Value| {
+    let state = |mut arguments: Value| {
         let mut client = Client::new(false);
+        arguments["env"] = json!({"CARGO_TARGET_DIR": folder.path("target")});
         client.launch(arguments);
         let state = client.console("state");
         let mut kinds = state.lines().filter(|line| line.starts_with("channel"));
@@ -258,7 +259,8 @@ fn the_newest_journal_is_found_by_the_name_of_its_test() {
         "broadcast"
     );
     assert_eq!(state(json!({"cwd": folder.0})), ("watch".to_string(), 1));
-    let said = refused(json!({"cwd": folder.0, "test": "whole_audit", "run": false}));
+    let env = json!({"CARGO_TARGET_DIR": folder.path("target")});
+    let said = refused(json!({"cwd": folder.0, "test": "whole_audit", "run": false, "env": env}));
     let wanted = format!(
         "there is no journal of a test `whole_audit` in {}: run the test first",
         folder.path("target/yovanelum").display()

@@ -10,7 +10,7 @@ use std::process::{Command, Stdio};
 use yovanelum::{Recorder, broadcast, named, watch};
 
 /// Makes random calls on a broadcast and a watch by two tasks, and saves them.
-fn save(folder: &Folder, seed: u64) -> std::path::PathBuf {
+pub fn save(folder: &Folder, seed: u64) -> std::path::PathBuf {
     let mut random = Random::new(seed);
     let recorder = Recorder::new();
     let _entered = recorder.enter();
@@ -65,11 +65,11 @@ fn console(ttd: &std::ffi::OsStr, journal: &Path, commands: &str) -> String {
 fn walked(client: &mut Client, calls: usize) -> (String, String) {
     let (mut shown, mut commands) = (String::new(), String::new());
     let mut look = |client: &mut Client, command: &str| {
-        for text in ["state", "step"] {
+        for text in ["state", "state json", "step"] {
             shown.push_str(&client.console(text));
             shown.push('\n');
         }
-        commands.push_str(&format!("{command}state\nstep\n"));
+        commands.push_str(&format!("{command}state\nstate json\nstep\n"));
     };
     look(client, "");
     for (request, word) in [("stepBack", "back\n"), ("stepOut", "forward\n")] {
@@ -87,10 +87,8 @@ fn walked(client: &mut Client, calls: usize) -> (String, String) {
 
 #[test]
 fn random_runs_are_shown_as_by_the_console() {
-    let Some(ttd) = std::env::var_os("YOVANELUM_TTD") else {
-        eprintln!("nothing is compared: the variable YOVANELUM_TTD names no program");
-        return;
-    };
+    let ttd = std::env::var_os("YOVANELUM_TTD");
+    let ttd = ttd.expect("the variable YOVANELUM_TTD names the program to compare with");
     let folder = Folder::new();
     for seed in 1..=runs(50) {
         let journal = save(&folder, seed);

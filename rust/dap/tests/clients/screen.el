@@ -1,5 +1,5 @@
 ;; Emacs in a terminal, with dap-mode and its windows. Keys stand for its commands. The environment names the adapter, the package with the test, and a
-;; folder for dap-mode's own files.
+;; folder for dap-mode's own files. What is launched is as docs/use/EDITORS.md has it, from a folder below the package, where Emacs doesn't find cargo.
 ;; Nothing is compiled beside.
 (setq native-comp-deferred-compilation nil)
 (package-initialize)
@@ -25,7 +25,7 @@
 
 (defun launch ()
   (interactive)
-  (dap-debug (list :type "yovanelum" :request "launch" :name "orders" :test "no_order_is_missing" :run :json-false :cwd (getenv "SHOP"))))
+  (dap-debug (list :type "yovanelum" :request "launch" :name "run")))
 (global-set-key (kbd "C-c l") #'launch)
 (global-set-key (kbd "C-c v") #'dap-ui-locals)
 (global-set-key (kbd "C-c n") #'dap-next)

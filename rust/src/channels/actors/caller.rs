@@ -126,6 +126,25 @@ pub(crate) fn has_called(recorder: u64) -> bool {
         .is_ok_and(|cached| cached.recorder == recorder)
 }
 
+/// Returns the number that the recorder with this number has given to the current caller, if its
+/// last recorded call was one for it.
+pub(crate) fn number_of_caller(recorder: u64) -> Option<u64> {
+    let cached = CACHED.try_with(Cell::get).ok()?;
+    (cached.recorder == recorder).then(|| cached.actor.number().into())
+}
+
+/// Returns the number of the recorder of the last recorded call of this thread, or of the future
+/// that it polls, if one was made since [`forget_last_recorder`].
+pub(crate) fn last_recorder() -> Option<u64> {
+    let cached = CACHED.try_with(Cell::get).ok()?;
+    Some(cached.recorder).filter(|recorder| *recorder != 0)
+}
+
+/// Forgets for which recorder the last call of this thread, or of the future that it polls, was.
+pub(crate) fn forget_last_recorder() {
+    let _ = CACHED.try_with(|cached| cached.set(NOT_CACHED));
+}
+
 /// As [`current`], where nothing is cached, or a thread may run several tasks.
 #[inline(never)]
 fn current_by_task(recorder: u64, find: impl FnOnce(Option<u64>) -> Actor) -> Actor {
@@ -221,6 +240,16 @@ pub(super) fn future() -> Option<Weak<str>> {
 /// Returns the name of the future that this thread polls or drops.
 pub(crate) fn name_of_future() -> Option<String> {
     of_future().map(|name| name.to_string())
+}
+
+/// Returns the name of the task that this thread polls.
+pub(crate) fn name_of_task() -> Arc<str> {
+    of_future().unwrap_or_else(|| "a task".into())
+}
+
+/// Returns the name of what this thread is blocked on, which polls the others: that of the thread.
+pub(crate) fn name_of_blocked() -> Arc<str> {
+    name_of_thread().into()
 }
 
 /// Returns the name by which the current caller is known: that of the future, or of the thread if

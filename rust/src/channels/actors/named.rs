@@ -4,6 +4,7 @@ use super::caller::dropping;
 use super::own::OwnCaller;
 use crate::channels::budget::Budgeted;
 use crate::channels::turns::{explored, holds};
+use crate::channels::whereabouts::BlockedSlot;
 use std::future::Future;
 use std::pin::Pin;
 use std::sync::Arc;
@@ -37,6 +38,7 @@ pub fn named<F: Future>(name: &str, future: F) -> Named<F> {
     Named {
         caller: OwnCaller::named(name),
         explored: None,
+        seen: BlockedSlot::default(),
         future: Some(Box::pin(future)),
     }
 }
@@ -64,6 +66,7 @@ pub struct Named<F> {
     caller: OwnCaller,
     // Its name in a run that is explored, where no other task has it.
     explored: Option<Arc<str>>,
+    seen: BlockedSlot,
     // `None` once this is dropped.
     future: Option<Pin<Box<F>>>,
 }
@@ -90,7 +93,8 @@ impl<F: Future> Future for Named<F> {
         let this = &mut *self;
         let _entered = this.caller.enter();
         let future = this.future.as_mut().expect("a future that is alive");
-        future.as_mut().poll(context)
+        this.seen
+            .poll(context, |context| future.as_mut().poll(context))
     }
 }
 

@@ -7,6 +7,7 @@ use super::origin::{Origin, spawned_at};
 use super::own::OwnCaller;
 use crate::channels::recorder::is_any_entered;
 use crate::channels::turns::{explored, holds_task};
+use crate::channels::whereabouts::{BlockedSlot, run_whole};
 use std::any;
 use std::fmt;
 use std::panic::Location;
@@ -24,6 +25,7 @@ pub struct SpawnedTask {
     caller: OwnCaller,
     // In a run that is explored.
     explored: Option<Box<ExploredTask>>,
+    seen: BlockedSlot,
 }
 
 /// Returns what a task is that is spawned where the caller is called. There is none for a future
@@ -82,6 +84,7 @@ impl SpawnedTask {
         SpawnedTask {
             caller: OwnCaller::task(origin),
             explored,
+            seen: BlockedSlot::default(),
         }
     }
 
@@ -97,7 +100,7 @@ impl SpawnedTask {
         }
         let _within = self.explored.as_ref().and_then(|task| task.enter());
         let _entered = self.caller.enter();
-        poll(context)
+        self.seen.poll(context, poll)
     }
 
     #[inline]
@@ -123,7 +126,7 @@ impl SpawnedTask {
     /// Calls a function, which is the whole task.
     pub fn run<T>(mut self, function: impl FnOnce() -> T) -> T {
         let _entered = self.caller.enter();
-        function()
+        run_whole(function)
     }
 }
 

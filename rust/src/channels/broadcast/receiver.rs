@@ -7,6 +7,7 @@ use crate::channels::block_on::block_on;
 use crate::channels::channel::{CallSite, CoreChannel, LockedChannel, call_site};
 use crate::channels::events::Event;
 use crate::channels::handle::Kind;
+use crate::channels::of_version::only_if_tokio_has;
 use crate::channels::recorder::{Handle, RecordedHandle, TextOf};
 use crate::channels::wait::{Method, Pending, WaitFor};
 use crate::run::reply::Reply;
@@ -110,6 +111,7 @@ impl<T> Receiver<T> {
     /// assert!(!mailer.same_channel(&other));
     /// ```
     pub fn same_channel(&self, other: &Self) -> bool {
+        only_if_tokio_has!("broadcast::Receiver::same_channel");
         self.handle.same_channel(&other.handle)
     }
 
@@ -128,6 +130,7 @@ impl<T> Receiver<T> {
     /// assert_eq!(listener.sender_strong_count(), 0);
     /// ```
     pub fn sender_strong_count(&self) -> usize {
+        only_if_tokio_has!("broadcast::Receiver::sender_strong_count");
         self.handle.count(CoreChannel::senders)
     }
 
@@ -145,6 +148,7 @@ impl<T> Receiver<T> {
     /// assert_eq!(listener.sender_weak_count(), 0);
     /// ```
     pub fn sender_weak_count(&self) -> usize {
+        only_if_tokio_has!("broadcast::Receiver::sender_weak_count");
         self.handle.count(CoreChannel::weak_senders)
     }
 
@@ -166,6 +170,7 @@ impl<T> Receiver<T> {
     /// assert_eq!(listener.try_recv(), Ok("shutting down"));
     /// ```
     pub fn is_closed(&self) -> bool {
+        only_if_tokio_has!("broadcast::Receiver::is_closed");
         self.sender_strong_count() == 0
     }
 
@@ -371,6 +376,7 @@ impl<T: Clone> Receiver<T> {
     /// ```
     #[track_caller]
     pub fn blocking_recv(&mut self) -> Result<T, RecvError> {
+        only_if_tokio_has!("broadcast::Receiver::blocking_recv");
         block_on(self.recv_by(Method::called("blocking_recv")))
     }
 }

@@ -4,6 +4,7 @@ use super::error::SendError;
 use super::{BroadcastHandle, Receiver, WeakSender, open};
 use crate::channels::channel::{CoreChannel, call_site};
 use crate::channels::handle::Kind;
+use crate::channels::of_version::only_if_tokio_has;
 use crate::channels::recorder::{Handle, RecordedHandle, TextOf};
 use crate::channels::wait::{Method, WaitFor};
 use crate::run::word::Word;
@@ -64,6 +65,7 @@ impl<T> Sender<T> {
     /// ```
     #[track_caller]
     pub fn new(capacity: usize) -> Sender<T> {
+        only_if_tokio_has!("broadcast::Sender::new");
         // The core opens each channel with a receiver.
         let (sender, receiver) = open(capacity);
         drop(receiver);
@@ -181,6 +183,7 @@ impl<T> Sender<T> {
     #[must_use = "a weak sender that isn't used does nothing"]
     #[track_caller]
     pub fn downgrade(&self) -> WeakSender<T> {
+        only_if_tokio_has!("broadcast::Sender::downgrade");
         WeakSender {
             handle: self.handle.create(
                 Kind::WeakSender,
@@ -212,6 +215,7 @@ impl<T> Sender<T> {
     /// ```
     #[track_caller]
     pub fn len(&self) -> usize {
+        only_if_tokio_has!("broadcast::Sender::len");
         self.handle.ask_count(
             Word::SenderLen,
             CoreChannel::broadcast_sender_len,
@@ -235,6 +239,7 @@ impl<T> Sender<T> {
     /// ```
     #[track_caller]
     pub fn is_empty(&self) -> bool {
+        only_if_tokio_has!("broadcast::Sender::is_empty");
         self.len() == 0
     }
 
@@ -276,6 +281,7 @@ impl<T> Sender<T> {
     /// assert!(!orders.same_channel(&refunds));
     /// ```
     pub fn same_channel(&self, other: &Self) -> bool {
+        only_if_tokio_has!("broadcast::Sender::same_channel");
         self.handle.same_channel(&other.handle)
     }
 
@@ -300,6 +306,7 @@ impl<T> Sender<T> {
     /// ```
     #[track_caller]
     pub fn closed(&self) -> impl Future<Output = ()> {
+        only_if_tokio_has!("broadcast::Sender::closed");
         let method = Method::called("closed");
         self.handle
             .wait(WaitFor::NoReceiver, Word::NoReceiver, method, |channel| {
@@ -327,6 +334,7 @@ impl<T> Sender<T> {
     /// assert_eq!(bus.strong_count(), 1);
     /// ```
     pub fn strong_count(&self) -> usize {
+        only_if_tokio_has!("broadcast::Sender::strong_count");
         self.handle.count(CoreChannel::senders)
     }
 
@@ -345,6 +353,7 @@ impl<T> Sender<T> {
     /// assert_eq!(bus.weak_count(), 0);
     /// ```
     pub fn weak_count(&self) -> usize {
+        only_if_tokio_has!("broadcast::Sender::weak_count");
         self.handle.count(CoreChannel::weak_senders)
     }
 }

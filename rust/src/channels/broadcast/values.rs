@@ -1,6 +1,11 @@
-//! The values of a broadcast. The core knows only their numbers.
+//! The values of a broadcast. The core knows only their numbers. By these they are in a proved
+//! store, which gives each of them back when no receiver has yet to receive it.
 
 use crate::channels::reentrant::Reentrant;
+use crate::core::shim::{Vec as CoreVec, alloc::Global};
+use crate::core::source::rw_law::NoMemory;
+use crate::core::source::rw_values;
+use std::alloc::{Layout, handle_alloc_error};
 use std::sync::Arc;
 
 /// A value that receivers have yet to receive.
@@ -9,6 +14,26 @@ pub(super) enum Value<T> {
     Own(T),
     /// Sent to several receivers. Threads clone it in turn, since a `T` need not be `Sync`.
     Shared(Arc<Reentrant<T>>),
+}
+
+impl<T> Value<T> {
+    /// Returns a value that is sent to this many receivers.
+    #[inline(always)]
+    fn sent_to(receivers: u64, value: T) -> Value<T> {
+        match receivers {
+            1 => Value::Own(value),
+            _ => Value::Shared(Arc::new(Reentrant::new(value))),
+        }
+    }
+
+    /// Returns the value for one of several receivers.
+    #[inline(always)]
+    fn share(&self) -> Value<T> {
+        match self {
+            Value::Shared(value) => Value::Shared(value.clone()),
+            Value::Own(_) => unreachable!("one receiver is the last"),
+        }
+    }
 }
 
 impl<T: Clone> Value<T> {
@@ -24,106 +49,31 @@ impl<T: Clone> Value<T> {
 }
 
 /// The values that a receiver may still receive.
-pub(super) struct Values<T> {
-    // Rounded up to a power of two.
-    capacity: usize,
-    // Grows with each send up to the capacity. From then on it is a ring, in which the newest value
-    // overwrites the oldest.
-    slots: Vec<ValueSlot<T>>,
-    // The index of the oldest slot.
-    first: usize,
-}
-
-struct ValueSlot<T> {
-    // The number of the value in the core.
-    number: u64,
-    // How many receivers have yet to receive the value. At 0 the value is dropped, as in tokio, and
-    // its slot stays until it is overwritten. The core could compute this only from every handle,
-    // so it is counted here.
-    receivers: u64,
-    value: Option<Value<T>>,
-}
-
-impl<T> ValueSlot<T> {
-    /// Returns the value for one receiver, and counts one receiver less.
-    fn receive(&mut self) -> Option<Value<T>> {
-        self.receivers -= 1;
-        match &self.value {
-            Some(Value::Shared(value)) if self.receivers > 0 => Some(Value::Shared(value.clone())),
-            _ => self.value.take(),
-        }
-    }
-}
+pub(super) struct Values<T>(rw_values::Values<Value<T>>);
 
 impl<T> Values<T> {
     /// Creates an empty store of as many values as the channel retains. Memory is allocated as they
     /// are sent.
     pub(super) fn new(capacity: usize) -> Values<T> {
-        Values {
-            capacity: capacity.next_power_of_two(),
-            slots: Vec::new(),
-            first: 0,
-        }
+        Values(rw_values::Values::new(Global, capacity.next_power_of_two()))
     }
 
-    /// Stores a value that was sent to this many receivers. Returns the value that it overwrites,
-    /// to be dropped while no lock is held.
+    /// Stores a value that was sent to this many receivers. Its number is greater than those before
+    /// by one, or by more where sends failed in between, which had no receivers. Returns the value
+    /// that it overwrites, to be dropped while no lock is held.
     #[inline(always)]
     pub(super) fn push(&mut self, number: u64, value: T, receivers: u64) -> Option<Value<T>> {
-        let value = match receivers {
-            1 => Value::Own(value),
-            _ => Value::Shared(Arc::new(Reentrant::new(value))),
-        };
-        if self.slots.len() < self.capacity {
-            self.slots.push(ValueSlot {
-                number,
-                receivers,
-                value: Some(value),
-            });
-            return None;
-        }
-        let slot = &mut self.slots[self.first];
-        self.first = (self.first + 1) & (self.capacity - 1);
-        slot.number = number;
-        slot.receivers = receivers;
-        slot.value.replace(value)
+        self.0.ready().unwrap_or_else(no_memory);
+        self.0
+            .put(number, Value::sent_to(receivers, value), receivers)
     }
 
     /// Returns the value with this number, for a receiver that has yet to receive it.
     #[inline(always)]
     pub(super) fn receive(&mut self, number: u64) -> Value<T> {
-        let value = self.slot_of(number).receive();
-        value.expect("a value that a receiver has yet to get")
-    }
-
-    /// Returns the index of the slot that has this many older ones.
-    #[inline]
-    fn index_at(&self, age: usize) -> usize {
-        (self.first + age) & (self.capacity - 1)
-    }
-
-    /// Returns the slot of the value with this number. Numbers rise by one, or by more where sends
-    /// failed in between.
-    #[inline]
-    fn slot_of(&mut self, number: u64) -> &mut ValueSlot<T> {
-        let oldest = self.slots[self.first].number;
-        let guess = self.index_at((number - oldest) as usize);
-        match self.slots.get(guess) {
-            Some(slot) if slot.number == number => &mut self.slots[guess],
-            _ => self.search(number),
-        }
-    }
-
-    /// Finds the slot of the value with this number by binary search.
-    #[cold]
-    fn search(&mut self, number: u64) -> &mut ValueSlot<T> {
-        let (newer, older) = self.slots.split_at_mut(self.first);
-        match older.binary_search_by_key(&number, |slot| slot.number) {
-            Ok(index) => &mut older[index],
-            Err(_) => {
-                let index = newer.partition_point(|slot| slot.number < number);
-                &mut newer[index]
-            }
+        match self.0.receive(number) {
+            Some(value) => value,
+            None => self.0.value(number).share(),
         }
     }
 
@@ -132,75 +82,89 @@ impl<T> Values<T> {
     /// receives in order.
     #[inline]
     pub(super) fn has_unread(&self) -> bool {
-        let newest = match self.first {
-            0 => self.slots.last(),
-            first => self.slots.get(first - 1),
-        };
-        newest.is_some_and(|slot| slot.receivers > 0)
+        self.0.has_unread()
     }
 
     /// Removes a dropped receiver from the counts of its unread values. Returns the values that no
     /// receiver has yet to receive.
     #[inline]
-    pub(super) fn drop_receiver(&mut self, unread: u64) -> Vec<Value<T>> {
+    pub(super) fn drop_receiver(&mut self, unread: u64) -> CoreVec<Value<T>> {
         match unread {
-            0 => Vec::new(),
+            0 => CoreVec::new(Global),
             _ => self.remove_unread(unread),
         }
     }
 
     /// As [`drop_receiver`](Values::drop_receiver), of a receiver that has yet to receive
     /// something.
-    fn remove_unread(&mut self, unread: u64) -> Vec<Value<T>> {
-        let count = self.slots.len();
-        let mut unwanted = Vec::new();
-        for age in count - count.min(unread as usize)..count {
-            let index = self.index_at(age);
-            let slot = &mut self.slots[index];
-            slot.receivers -= 1;
-            if slot.receivers == 0 {
-                unwanted.extend(slot.value.take());
-            }
-        }
-        unwanted
+    #[inline(never)]
+    fn remove_unread(&mut self, unread: u64) -> CoreVec<Value<T>> {
+        self.0.leave(Global, unread).unwrap_or_else(no_memory)
     }
+}
+
+/// Ends the process, as a vector of std does that can't grow: the core has made the call.
+#[cold]
+fn no_memory<R>(NoMemory: NoMemory) -> R {
+    handle_alloc_error(Layout::new::<u64>())
 }
 
 #[cfg(test)]
 mod tests {
     use super::*;
 
-    // The numbers in between are those of sends that failed.
-    const SENT: [u64; 9] = [0, 1, 4, 5, 9, 20, 21, 22, 40];
+    // The numbers in between are those of sends that failed, without receivers. What was sent
+    // before each of them was received.
+    const RUNS: [(u64, u64); 4] = [(0, 2), (4, 6), (9, 10), (20, 26)];
 
     #[test]
     fn values_are_found_by_their_numbers_also_where_some_are_left_out() {
         let mut values = Values::new(4);
-        for (sent, number) in SENT.iter().enumerate() {
-            let overwritten = values.push(*number, number * 10, 2).map(Value::cloned);
-            let expected = sent.checked_sub(4).map(|before| SENT[before] * 10);
-            assert_eq!(overwritten, expected, "at {number}");
-            for retained in &SENT[sent.saturating_sub(3)..=sent] {
-                assert_eq!(values.slot_of(*retained).number, *retained);
+        for (first, end) in RUNS {
+            for number in first..end {
+                values.push(number, number * 10, 2);
+                for retained in first.max(number.saturating_sub(3))..=number {
+                    assert_eq!(values.0.value(retained).share().cloned(), retained * 10);
+                }
             }
+            for number in first.max(end.saturating_sub(4))..end {
+                assert_eq!(values.receive(number).cloned(), number * 10);
+                assert_eq!(values.receive(number).cloned(), number * 10);
+            }
+            assert!(!values.has_unread());
+        }
+    }
+
+    #[test]
+    fn the_oldest_value_is_overwritten() {
+        let mut values = Values::new(4);
+        for number in 0..9 {
+            let overwritten = values.push(number, number * 10, 2).map(Value::cloned);
+            let expected = number.checked_sub(4).map(|before| before * 10);
+            assert_eq!(overwritten, expected, "at {number}");
         }
     }
 
     #[test]
     fn a_value_is_dropped_when_its_last_receiver_has_it_or_is_gone() {
+        let alive = |value: &Arc<()>| Arc::strong_count(value) - 1;
+        let kept: [Arc<()>; 3] = Default::default();
         let mut values = Values::new(2);
-        for number in 0..3 {
-            assert!(values.push(number, (), 2).is_none_or(|_| number == 2));
+        for (number, value) in kept.iter().enumerate() {
+            drop(values.push(number as u64, value.clone(), 2));
         }
+        assert_eq!(kept.each_ref().map(alive), [0, 1, 1]);
         values.receive(1).cloned();
         assert!(values.has_unread());
+        assert_eq!(alive(&kept[1]), 1, "the other has yet to receive it");
         assert_eq!(
             values.drop_receiver(2).len(),
             1,
             "the value 1, which the other has"
         );
+        assert_eq!(kept.each_ref().map(alive), [0, 0, 1]);
         values.receive(2).cloned();
         assert!(!values.has_unread());
-        assert!(values.slots.iter().all(|slot| slot.value.is_none()));
+        assert_eq!(kept.each_ref().map(alive), [0, 0, 0]);
     }
 }

@@ -2,12 +2,13 @@
 //! that is installed, else none.
 
 use super::Recorder;
+use super::automatic::TestThread;
 use super::noted_panic::PATIENCE;
 use crate::channels::lock::{lock, try_lock_for};
 use std::cell::RefCell;
 use std::marker::PhantomData;
 use std::sync::atomic::{AtomicBool, Ordering};
-use std::sync::{Arc, Mutex};
+use std::sync::{Arc, Mutex, OnceLock};
 
 /// Whether a recorder was entered or installed in this process.
 static IS_ANY: AtomicBool = AtomicBool::new(false);
@@ -15,24 +16,41 @@ static IS_ANY: AtomicBool = AtomicBool::new(false);
 static INSTALLED: Stack = Stack {
     followed: None,
     entries: Mutex::new(Vec::new()),
+    test: OnceLock::new(),
 };
 
 thread_local! {
-    static ENTERED: RefCell<Arc<Stack>> = RefCell::default();
+    static ENTERED: RefCell<OfThread> = RefCell::default();
+}
+
+/// The recorders that are entered on a thread, until it ends.
+#[derive(Default)]
+struct OfThread(Arc<Stack>);
+
+impl Drop for OfThread {
+    fn drop(&mut self) {
+        // Threads that follow this one may live on, and the test doesn't.
+        if let Some(Some(test)) = self.0.test.get() {
+            test.end();
+        }
+    }
 }
 
 /// The recorders that are entered on a thread, or installed for the process. The last one is used.
 #[derive(Default)]
-struct Stack {
+pub(super) struct Stack {
     // That of the thread which this one follows. It is used where this one is empty.
     followed: Option<Arc<Stack>>,
     // Each recorder with the number of its guard. The numbers rise.
     entries: Mutex<Vec<(u64, Recorder)>>,
+    // The test that the thread runs, where tests get recorders by themselves. It is looked for
+    // once.
+    pub(super) test: OnceLock<Option<TestThread>>,
 }
 
 impl Stack {
     /// Returns the number of the new entry.
-    fn push(&self, recorder: &Recorder) -> u64 {
+    pub(super) fn push(&self, recorder: &Recorder) -> u64 {
         IS_ANY.store(true, Ordering::Relaxed);
         let mut entries = lock(&self.entries);
         let number = entries.last().map_or(0, |(last, _)| last + 1);
@@ -55,6 +73,15 @@ impl Stack {
         last.or_else(|| self.followed.as_ref()?.last())
     }
 
+    /// Returns that of the thread which this one follows, and which follows none.
+    pub(super) fn first(self: &Arc<Stack>) -> Arc<Stack> {
+        let mut first = self;
+        while let Some(followed) = &first.followed {
+            first = followed;
+        }
+        first.clone()
+    }
+
     /// Whether the recorder with this number is one of these.
     fn has(&self, id: u64) -> bool {
         let entries = try_lock_for(&self.entries, PATIENCE);
@@ -67,6 +94,11 @@ impl Stack {
     }
 }
 
+/// Has tasks be seen as where a recorder was entered: one may be, once they are spawned.
+pub(super) fn expect_any() {
+    IS_ANY.store(true, Ordering::Relaxed);
+}
+
 /// Whether a recorder was entered or installed in this process.
 #[inline]
 pub(crate) fn is_any_entered() -> bool {
@@ -76,22 +108,22 @@ pub(crate) fn is_any_entered() -> bool {
 /// Returns the number of the recorder that a new channel of this thread would belong to, and the
 /// thread that has created it.
 pub(crate) fn current_and_home() -> Option<(u64, usize)> {
-    let current = Recorder::current()?;
+    let current = Recorder::current_or_begun().filter(|recorder| !recorder.0.is_off)?;
     Some((current.0.id, current.0.home))
 }
 
 /// Whether the recorder with this number is entered on this thread, or installed. It is called
 /// where a thread panics.
 pub(crate) fn is_entered(id: u64) -> bool {
-    let entered = ENTERED.try_with(|entered| entered.try_borrow().ok().map(|it| it.clone()));
+    let entered = ENTERED.try_with(|entered| entered.try_borrow().ok().map(|it| it.0.clone()));
     let is_here = entered.ok().flatten().is_some_and(|stack| stack.has(id));
     is_here || INSTALLED.has(id)
 }
 
 /// Returns the recorders that are entered on this thread. At the end of a thread, they may be gone:
 /// then nothing is entered.
-fn of_this_thread() -> Arc<Stack> {
-    let stack = ENTERED.try_with(|entered| entered.borrow().clone());
+pub(super) fn of_this_thread() -> Arc<Stack> {
+    let stack = ENTERED.try_with(|entered| entered.borrow().0.clone());
     stack.unwrap_or_default()
 }
 
@@ -276,10 +308,10 @@ pub fn follow_this_thread() -> impl Fn() + Clone + Send + Sync + 'static {
     move || {
         let stack = Stack {
             followed: Some(followed.clone()),
-            entries: Mutex::default(),
+            ..Stack::default()
         };
         // At the end of a thread there is nothing to follow for.
-        let before = ENTERED.try_with(|entered| entered.replace(Arc::new(stack)));
+        let before = ENTERED.try_with(|entered| entered.replace(OfThread(Arc::new(stack))));
         drop(before);
     }
 }

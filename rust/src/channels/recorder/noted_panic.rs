@@ -8,8 +8,8 @@ use std::panic::PanicHookInfo;
 use std::thread::{self, ThreadId};
 use std::time::Duration;
 
-/// How many bytes of a panic's text are noted.
-const MOST_BYTES: usize = 4096;
+/// How many bytes of the text of a panic, or of an error, are noted.
+pub(crate) const MOST_BYTES: usize = 4096;
 
 /// How long a panic waits for a lock that another thread may hold. If the thread itself holds it,
 /// that thread would wait forever.

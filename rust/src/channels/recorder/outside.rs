@@ -1,10 +1,13 @@
 //! Channels that are created in this process, and those that belong to no recorder.
 
+use crate::channels::atomic::AtomicU64;
 use crate::channels::channel::CallSite;
+use crate::channels::lock::lock;
 use crate::channels::standard_error::say;
 use std::env;
-use std::sync::OnceLock;
-use std::sync::atomic::{AtomicBool, Ordering};
+use std::sync::atomic::{AtomicBool, AtomicUsize, Ordering};
+use std::sync::{Mutex, OnceLock};
+use std::thread;
 
 /// The variable that names the journal which a test replays.
 pub(crate) const REPLAY: &str = "YOVANELUM_REPLAY";
@@ -12,8 +15,51 @@ pub(crate) const REPLAY: &str = "YOVANELUM_REPLAY";
 /// Whether a channel of this crate was created in this process.
 static IS_SWAPPED: AtomicBool = AtomicBool::new(false);
 
-/// Where the first channel was created that belongs to no recorder.
-static FIRST_OF_NONE: OnceLock<CallSite> = OnceLock::new();
+/// How many channels are noted that belong to no recorder.
+const MOST_OF_NONE: usize = 64;
+
+/// The first channels that belong to no recorder, and how many there are.
+static OF_NONE: Mutex<Vec<OfNone>> = Mutex::new(Vec::new());
+static COUNT_OF_NONE: AtomicUsize = AtomicUsize::new(0);
+
+/// A channel that belongs to no recorder.
+#[derive(Clone, Debug)]
+pub(crate) struct OfNone {
+    /// Where it was created.
+    pub(crate) made_at: CallSite,
+    /// The name of the thread that created it.
+    pub(crate) thread: Option<String>,
+    /// When, among the starts of tests.
+    pub(crate) moment: u64,
+    /// Whether one test alone had a recorder then.
+    pub(crate) is_of_one: bool,
+}
+
+/// How many tests have a recorder.
+static TESTS: AtomicUsize = AtomicUsize::new(0);
+
+/// While this is alive, a test has a recorder.
+#[derive(Debug)]
+pub(crate) struct TestCount(());
+
+impl TestCount {
+    pub(crate) fn begin() -> TestCount {
+        TESTS.fetch_add(1, Ordering::SeqCst);
+        TestCount(())
+    }
+}
+
+impl Drop for TestCount {
+    fn drop(&mut self) {
+        TESTS.fetch_sub(1, Ordering::SeqCst);
+    }
+}
+
+/// Counts moments, which say what came before what.
+pub(crate) fn next_moment() -> u64 {
+    static NEXT: AtomicU64 = AtomicU64::new(1);
+    NEXT.fetch_add(1, Ordering::SeqCst)
+}
 
 /// Notes that a channel is created here in the source.
 pub(crate) fn note_channel(made_at: CallSite, has_recorder: bool) {
@@ -21,19 +67,30 @@ pub(crate) fn note_channel(made_at: CallSite, has_recorder: bool) {
     if !IS_SWAPPED.load(Ordering::Relaxed) {
         IS_SWAPPED.store(true, Ordering::Relaxed);
     }
-    if !has_recorder {
-        FIRST_OF_NONE.get_or_init(|| made_at);
+    if !has_recorder && COUNT_OF_NONE.load(Ordering::Relaxed) < MOST_OF_NONE {
+        note_of_none(made_at);
     }
+}
+
+#[cold]
+fn note_of_none(made_at: CallSite) {
+    COUNT_OF_NONE.fetch_add(1, Ordering::Relaxed);
+    lock(&OF_NONE).push(OfNone {
+        made_at,
+        thread: thread::current().name().map(String::from),
+        moment: next_moment(),
+        is_of_one: TESTS.load(Ordering::SeqCst) == 1,
+    });
 }
 
 /// Whether a channel was created that belongs to no recorder.
 pub(crate) fn is_any_of_none() -> bool {
-    FIRST_OF_NONE.get().is_some()
+    COUNT_OF_NONE.load(Ordering::Relaxed) > 0
 }
 
-/// Returns where the first channel was created that belongs to no recorder, if that is known.
-pub(crate) fn first_of_none() -> CallSite {
-    FIRST_OF_NONE.get().copied().flatten()
+/// Returns the first channels that belong to no recorder, in the order in which they were created.
+pub(crate) fn of_none() -> Vec<OfNone> {
+    lock(&OF_NONE).clone()
 }
 
 /// Whether a channel of this crate was created in this process.

@@ -11,10 +11,11 @@ use crate::channels::channel::{CallSite, ChannelState, Known};
 use crate::channels::lock::{lock, try_lock_for};
 use crate::channels::reentrant::thread_number;
 use crate::channels::turns::{self, Turns};
+use crate::channels::whereabouts::WatchedTest;
 use crate::run::clock::Times;
 use crate::run::names::{Maker, Unrecorded};
 use std::sync::atomic::{AtomicBool, AtomicUsize, Ordering};
-use std::sync::{Arc, Mutex, Weak};
+use std::sync::{Arc, Mutex, OnceLock, Weak};
 use std::time::Duration;
 
 /// How many channels a run has at most.
@@ -66,6 +67,8 @@ pub(crate) struct Shared {
     // Held by the handles of the recorder alone. A channel, which holds this, may be held by a
     // function there.
     texts: Mutex<Weak<Texts>>,
+    // What is seen of the tasks of a test.
+    pub(crate) watched: OnceLock<Arc<WatchedTest>>,
 }
 
 fn find_after(is_changed: bool, find: impl Fn() -> Option<Actor>) -> Option<Actor> {
@@ -109,6 +112,7 @@ impl Shared {
             readers: AtomicUsize::new(0),
             makers: Mutex::default(),
             texts: Mutex::default(),
+            watched: OnceLock::new(),
         }
     }
 

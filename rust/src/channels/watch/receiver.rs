@@ -4,6 +4,7 @@ use super::error::RecvError;
 use super::{Ref, WatchHandle, attempt_changed};
 use crate::channels::channel::{CallSite, CoreChannel, call_site};
 use crate::channels::handle::Kind;
+use crate::channels::of_version::only_if_tokio_has;
 use crate::channels::recorder::{Handle, RecordedHandle, TextOf};
 use crate::channels::wait::{Method, Pending, WaitFor};
 use crate::run::word::Word;
@@ -156,6 +157,7 @@ impl<T> Receiver<T> {
     /// ```
     #[track_caller]
     pub fn mark_changed(&mut self) {
+        only_if_tokio_has!("watch::Receiver::mark_changed");
         self.handle
             .call(Word::MarkChanged, CoreChannel::watch_mark_changed);
     }
@@ -179,6 +181,7 @@ impl<T> Receiver<T> {
     /// ```
     #[track_caller]
     pub fn mark_unchanged(&mut self) {
+        only_if_tokio_has!("watch::Receiver::mark_unchanged");
         self.handle
             .call(Word::MarkUnchanged, CoreChannel::watch_mark_unchanged);
     }
@@ -287,6 +290,7 @@ impl<T> Receiver<T> {
         &mut self,
         mut f: impl FnMut(&T) -> bool,
     ) -> impl Future<Output = Result<Ref<'_, T>, RecvError>> {
+        only_if_tokio_has!("watch::Receiver::wait_for");
         let method = Method::called("wait_for");
         async move {
             self.handle.give_way().await;

@@ -4,6 +4,7 @@ use super::error::SendError;
 use super::{Receiver, Ref, WatchHandle, channel};
 use crate::channels::channel::{CallSite, CoreChannel, LockedChannel, call_site};
 use crate::channels::handle::Kind;
+use crate::channels::of_version::only_if_tokio_has;
 use crate::channels::recorder::{Handle, RecordedHandle, TextOf};
 use crate::channels::turns::Permit;
 use crate::channels::wait::{Method, WaitFor};
@@ -60,6 +61,7 @@ impl<T> Sender<T> {
     /// ```
     #[track_caller]
     pub fn new(init: T) -> Sender<T> {
+        only_if_tokio_has!("watch::Sender::new");
         // The core opens each channel with a receiver.
         let (sender, receiver) = channel(init);
         drop(receiver);
@@ -452,6 +454,7 @@ impl<T> Sender<T> {
     /// assert_eq!(config.sender_count(), 1);
     /// ```
     pub fn sender_count(&self) -> usize {
+        only_if_tokio_has!("watch::Sender::sender_count");
         self.handle.count(CoreChannel::senders)
     }
 
@@ -468,6 +471,7 @@ impl<T> Sender<T> {
     /// assert!(!config.same_channel(&state));
     /// ```
     pub fn same_channel(&self, other: &Self) -> bool {
+        only_if_tokio_has!("watch::Sender::same_channel");
         self.handle.same_channel(&other.handle)
     }
 }
@@ -496,6 +500,7 @@ impl<T> Clone for Sender<T> {
     /// Creates another sender of the same channel.
     #[track_caller]
     fn clone(&self) -> Sender<T> {
+        only_if_tokio_has!("watch::Sender::clone");
         Sender {
             handle: self.handle.create(
                 Kind::Sender,
@@ -509,6 +514,7 @@ impl<T> Clone for Sender<T> {
 impl<T: Default> Default for Sender<T> {
     #[track_caller]
     fn default() -> Sender<T> {
+        only_if_tokio_has!("watch::Sender::default");
         Sender::new(T::default())
     }
 }

@@ -176,6 +176,25 @@ mod tests {
     }
 
     #[test]
+    fn of_many_calls_in_between_the_others_are_counted() {
+        let mut schedule = Schedule::new("s3.1".to_string());
+        schedule.steps = vec![step("reader", Some(("borrow", 14)), Turn::Same)];
+        schedule.steps.push(step("admin", None, Turn::Switch));
+        let calls = (0..CALLS_TOLD + 3).map(|_| step("admin", Some(("send", 21)), Turn::Same));
+        schedule.steps.extend(calls);
+        schedule
+            .steps
+            .push(step("reader", Some(("borrow", 15)), Turn::Same));
+        let words = in_words(&schedule);
+        assert!(words.contains(" and 3 more"), "{words}");
+        assert_eq!(
+            words.matches("channel 0.send").count(),
+            CALLS_TOLD,
+            "{words}"
+        );
+    }
+
+    #[test]
     fn time_that_passed_is_told_with_who_stood() {
         let mut schedule = Schedule::new("ts1.1".to_string());
         let mut time = step("(time)", None, Turn::Switch);

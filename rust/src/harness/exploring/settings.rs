@@ -8,7 +8,7 @@ use std::thread;
 use std::time::Duration;
 
 /// The variable that says how many runs are made.
-pub(super) const RUNS: &str = "YOVANELUM_EXPLORE";
+pub(in crate::harness) const RUNS: &str = "YOVANELUM_EXPLORE";
 const FROM: &str = "YOVANELUM_EXPLORE_FROM";
 const SECONDS: &str = "YOVANELUM_EXPLORE_SECONDS";
 const JOBS: &str = "YOVANELUM_EXPLORE_JOBS";

@@ -1,6 +1,7 @@
 //! How cargo was told to build this program: what a later command has to say for the same build.
 
 use super::{Program, TargetKind};
+use crate::harness::facade;
 use std::path::Path;
 use std::sync::OnceLock;
 use std::{env, fs};
@@ -72,9 +73,16 @@ pub fn set_patch(folder: &'static str) {
     let _ = PATCH.set(folder);
 }
 
-/// Whether a package in tokio's place is part of the build.
+/// Whether a package in tokio's place is part of the build. It says in which folder it is where a
+/// runtime is built or a task is spawned, and asks for a feature of this crate in any case.
 pub(crate) fn is_patched() -> bool {
-    PATCH.get().is_some()
+    PATCH.get().is_some() || cfg!(feature = "patch")
+}
+
+/// Returns the folder of the package in tokio's place, if it is part of the build.
+fn patch() -> Option<String> {
+    let said = PATCH.get().map(|folder| folder.to_string());
+    said.or_else(|| is_patched().then(facade::folder_of_build))
 }
 
 /// What a command has to say for the same build as that of this program.
@@ -209,10 +217,7 @@ fn options_by_build(program: &Program) -> Vec<String> {
         let manifest = fs::read_to_string(folder.join("Cargo.toml"));
         manifest.is_ok_and(|text| text.contains("tokio-recorded"))
     };
-    if let Some(patch) = PATCH
-        .get()
-        .filter(|_| !program.package_folder.ancestors().any(has_patch))
-    {
+    if let Some(patch) = patch().filter(|_| !program.package_folder.ancestors().any(has_patch)) {
         let path = patch.replace('\\', "\\\\").replace('"', "\\\"");
         options.extend([
             "--config".to_string(),

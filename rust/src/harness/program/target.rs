@@ -109,23 +109,37 @@ fn name_and_hash(stem: &str) -> (&str, Option<&str>) {
     }
 }
 
+/// Returns the hash that cargo has appended to the name of the program with this path, if it has.
+pub(super) fn hash_of(program: &Path) -> Option<String> {
+    let stem = program.file_stem()?.to_str()?;
+    name_and_hash(stem).1.map(str::to_string)
+}
+
 /// Returns the root file of the program's crate: the first source in the file that the compiler has
 /// left beside the program.
 pub(super) fn crate_root(program: &Path) -> Option<PathBuf> {
-    let stem = program.file_stem()?.to_str()?;
-    name_and_hash(stem).1?;
-    let beside = fs::read_to_string(program.with_extension("d")).ok()?;
-    first_source(&beside).map(PathBuf::from)
+    sources(program).into_iter().next()
 }
 
-/// Returns the first source in a text that has the rules of `make`: a file, a colon, and the files
-/// that it depends on.
-fn first_source(text: &str) -> Option<String> {
-    let (_, sources) = text.lines().next()?.split_once(": ")?;
+/// Returns the sources of the program's crate, in the file that the compiler has left beside the
+/// program, the root file first.
+pub(super) fn sources(program: &Path) -> Vec<PathBuf> {
+    let stem = program.file_stem().and_then(|stem| stem.to_str());
+    let of_cargo = stem.filter(|stem| name_and_hash(stem).1.is_some());
+    let beside = of_cargo.and_then(|_| fs::read_to_string(program.with_extension("d")).ok());
+    beside.map_or_else(Vec::new, |text| sources_in(&text))
+}
+
+/// Returns the sources in a text that has the rules of `make`: a file, a colon, and the files that
+/// it depends on.
+fn sources_in(text: &str) -> Vec<PathBuf> {
+    let first = text.lines().next().and_then(|line| line.split_once(": "));
     // A blank in a name stands behind a backslash.
-    let sources = sources.replace("\\ ", "\0");
-    let first = sources.split(' ').find(|source| !source.is_empty())?;
-    Some(first.replace('\0', " "))
+    let sources = first.map_or_else(String::new, |(_, sources)| sources.replace("\\ ", "\0"));
+    let sources = sources.split(' ').filter(|source| !source.is_empty());
+    sources
+        .map(|source| source.replace('\0', " ").into())
+        .collect()
 }
 
 /// Returns the target of a package whose root file is this, by where cargo looks for it. A target
@@ -212,10 +226,12 @@ mod tests {
     #[test]
     fn the_first_source_is_the_root_file() {
         let text = "/ws/target/debug/deps/bus-11d456fd1e430ec6.d: tests/bus.rs tests/support/mod.rs\n\nx: y\n";
-        assert_eq!(first_source(text), Some("tests/bus.rs".to_string()));
+        let all = ["tests/bus.rs", "tests/support/mod.rs"].map(PathBuf::from);
+        assert_eq!(sources_in(text), all);
         let text = "/my\\ ws/target/bus.d: my\\ tests/bus.rs src/lib.rs\n";
-        assert_eq!(first_source(text), Some("my tests/bus.rs".to_string()));
-        assert_eq!(first_source("no rule\n"), None);
+        let all = ["my tests/bus.rs", "src/lib.rs"].map(PathBuf::from);
+        assert_eq!(sources_in(text), all);
+        assert!(sources_in("no rule\n").is_empty());
     }
 
     #[test]

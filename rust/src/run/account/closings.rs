@@ -15,6 +15,8 @@ const NAMED: usize = 3;
 pub(super) struct Closed {
     closing: Closing,
     receivers: Vec<LateReader>,
+    // Whether the channel had carried a value or a change.
+    has_carried: bool,
     // The last call of who failed, if it was told so, and whether the failure names that.
     failed: Option<(u64, bool)>,
 }
@@ -29,6 +31,7 @@ impl Closed {
         match self.failed {
             Some((_, true)) => orders::LAST_CALL,
             Some((_, false)) => orders::REFUSED_BEFORE,
+            None if self.has_carried && self.is_known() => orders::ENDED,
             None => orders::CLOSED,
         }
     }
@@ -51,6 +54,7 @@ pub(super) fn found(context: &Context<'_>) -> Vec<Closed> {
         .map(|closing| Closed {
             closing: *closing,
             receivers: receivers(context, closing.channel),
+            has_carried: context.history.channel(closing.channel).last_sent > 0,
             failed: told_to_failed(context, closing.channel),
         })
         .filter(|closed| !closed.receivers.is_empty())
@@ -101,7 +105,6 @@ fn fact_of_failed(context: &Context<'_>, closed: &Closed, told: u64) -> Fact {
     let naming = context.naming;
     let call = context.run.entry(told);
     let receiver = naming.receiver(channel, call.handle);
-    let by = naming.actor(context.run.entry(place).actor.into());
     let steps = vec![
         context.step(
             place,
@@ -121,14 +124,16 @@ fn fact_of_failed(context: &Context<'_>, closed: &Closed, told: u64) -> Fact {
         kind: "closing",
         members: members(context, closed),
         head: format!(
-            "{} was told Closed, since {by} dropped the last sender of {} ({})",
+            "{} was told Closed, since {} the last sender of {} ({})",
             receiver.full,
+            context.who_dropped(place),
             naming.channel(channel),
             visible::call(place),
         ),
         sights: vec![1, 0],
         steps,
         last: None,
+        late: vec![],
         look: place,
     }
 }
@@ -174,6 +179,7 @@ fn fact_of_all(context: &Context<'_>, closed: &Closed) -> Fact {
             let names = visible::first(&not_told, NAMED, ", ");
             format!("  not that far: {names}")
         }),
+        late: vec![],
         look: place,
     }
 }

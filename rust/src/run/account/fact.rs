@@ -88,6 +88,25 @@ impl FactStep {
     }
 }
 
+/// How much a fact says of the failure.
+#[derive(Clone, Copy, Debug, PartialEq, Eq)]
+pub(crate) enum Level {
+    Error,
+    Warning,
+    Note,
+}
+
+impl Level {
+    /// The word for it, as rustc has it.
+    pub(crate) fn word(self) -> &'static str {
+        match self {
+            Level::Error => "error",
+            Level::Warning => "warning",
+            Level::Note => "note",
+        }
+    }
+}
+
 /// What was found of a receiver or a channel, in words.
 #[derive(Debug)]
 pub(crate) struct Fact {
@@ -100,6 +119,8 @@ pub(crate) struct Fact {
     pub(crate) steps: Vec<FactStep>,
     /// The line after the steps, if there is one.
     pub(crate) last: Option<String>,
+    /// Why it was late, as sentences in the order of time.
+    pub(crate) late: Vec<String>,
     /// The steps whose places in the sources are worth looking at, the one that is worth most
     /// first.
     pub(crate) sights: Vec<usize>,
@@ -108,10 +129,17 @@ pub(crate) struct Fact {
 }
 
 impl Fact {
-    /// Whether it is usual in a test that passes: a receiver of a watch that looks and doesn't
-    /// mark, or that was never used, and a channel that closed.
-    pub(crate) fn is_usual(&self) -> bool {
-        self.order >= orders::UNMARKED && self.kind != "loss"
+    /// Returns its level. The first fact of a run says what failed, but for what is usual in a test
+    /// that passes: a receiver of a watch that looks and doesn't mark, or that was never used, and
+    /// a channel that closed. Nor is it known that a failure came of a call that another thread or
+    /// task waits in: that one may be idle.
+    pub(crate) fn level(&self, is_first: bool, has_failed: bool) -> Level {
+        let is_usual = self.order >= orders::UNMARKED && self.kind != "loss";
+        match self.order {
+            orders::OTHER_VALUE | orders::ENDED => Level::Note,
+            _ if !is_first || is_usual || has_failed && self.kind == "wait" => Level::Warning,
+            _ => Level::Error,
+        }
     }
 
     /// Returns its lines. That of a step comes after the first line and those of the steps before
@@ -120,6 +148,7 @@ impl Fact {
         let mut text = vec![self.head.clone()];
         text.extend(columns::aligned(self.steps.iter().map(|step| &step.cells)));
         text.extend(self.last.clone());
+        text.extend(self.late.iter().map(|late| format!("  late: {late}")));
         text
     }
 

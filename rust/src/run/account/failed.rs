@@ -12,7 +12,7 @@ pub(crate) struct Failed {
     pub(super) place: u64,
     /// Who failed.
     pub(super) name: String,
-    /// The message of the panic, or nothing.
+    /// The message of the panic or error, or nothing.
     pub(super) message: String,
     pub(super) location: Option<SourceLocation>,
     /// The last call before it, if its reply is why or it is on the line that failed.
@@ -54,6 +54,7 @@ fn text(
     let at = location.map_or(String::new(), |at| format!(" at {}", visible::line_of(at)));
     let message = match (visible::line(message).as_str(), end.panic) {
         ("", None) => " returned an error".to_string(),
+        (line, None) => format!(" returned {line}"),
         ("", _) => String::new(),
         (line, _) => format!(": {line}"),
     };

@@ -22,12 +22,25 @@ pub(super) struct FailureAt {
     pub(super) panic: Option<usize>,
 }
 
+impl FailureAt {
+    /// Returns its text: of a panic or an error.
+    pub(super) fn text<'a>(&self, names: &'a Names) -> Option<&'a str> {
+        let text = match self.panic {
+            Some(panic) => &names.ending.panics[panic].text,
+            None => &names.ending.returned.as_ref()?.text,
+        };
+        Some(text)
+    }
+}
+
 /// How a test failed, if it did.
 pub(super) struct Failure {
     // In the order in which they began.
     all: Vec<FailureAt>,
     end: Option<usize>,
     last_call: Option<LastCall>,
+    // The last call of who failed, if it was neither refused nor is named.
+    other_last_call: Option<u64>,
 }
 
 /// The last call of who failed.
@@ -66,10 +79,14 @@ impl Failure {
         };
         all.extend(error);
         let last_call = end.and_then(|end| last_call(run, names, history, &all[end]));
+        let is_why = |call: &LastCall| call.is_named || is_refused(&run.entry(call.place));
         Failure {
             all,
             end,
-            last_call,
+            last_call: last_call.filter(is_why),
+            other_last_call: last_call
+                .filter(|call| !is_why(call))
+                .map(|call| call.place),
         }
     }
 
@@ -83,6 +100,11 @@ impl Failure {
     /// it is on the line that failed.
     pub(super) fn last_call(&self) -> Option<u64> {
         self.last_call.map(|call| call.place)
+    }
+
+    /// The place of the last call of the actor that failed, if nothing says that it is why.
+    pub(super) fn other_last_call(&self) -> Option<u64> {
+        self.other_last_call
     }
 
     /// Whether that call is on the line that failed, or the text of the failure has its reply.
@@ -157,20 +179,17 @@ fn actor_of_test(names: &Names) -> Option<u64> {
     Some(*actor)
 }
 
-/// Returns the place of the last call that an actor made before it failed, if it was refused or is
-/// on the line that failed.
+/// Returns the last call that an actor made before it failed.
 fn last_call(run: &Run, names: &Names, history: &History, end: &FailureAt) -> Option<LastCall> {
     let actor = end.actor?;
     let places = (history.lead + 1..=end.place).rev();
     let mut calls = places.map(|place| (place, run.entry(place)));
     let (place, entry) =
         calls.find(|(_, entry)| u64::from(entry.actor) == actor && entry.word != Word::Drop)?;
-    let text = end
-        .panic
-        .map(|panic| names.ending.panics[panic].text.as_str());
+    let text = end.text(names);
     let is_in_text = text.is_some_and(|text| is_named_by(text, &entry));
     let is_named = is_in_text || is_on_line(names, history, (place, &entry), end);
-    (is_named || is_refused(&entry)).then_some(LastCall { place, is_named })
+    Some(LastCall { place, is_named })
 }
 
 /// Whether the text of a failure has the error that a call returned.

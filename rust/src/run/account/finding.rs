@@ -1,18 +1,19 @@
 //! What is found in a run, in the order in which it is told.
 
+use super::asked::Answered;
 use super::closings::Closed;
 use super::losses::Lost;
 use super::panicked::Panicked;
 use super::silence::Silence;
 use super::watches::Overlooked;
-use super::{Context, Fact, MOST_TOLD, closings, losses, panicked, silence, watches};
+use super::{Context, Fact, MOST_TOLD, asked, closings, losses, panicked, silence, watches};
 
 /// Puts findings in the order of their rules. Those of one rule stay in theirs. A sort of so large
 /// things would be a good part of the page's engine.
 fn in_order(all: Vec<Finding>) -> Vec<Finding> {
     let mut sorted = Vec::with_capacity(all.len());
     let mut left: Vec<_> = all.into_iter().map(Some).collect();
-    for order in orders::PANIC..=orders::CLOSED {
+    for order in orders::PANIC..=orders::ENDED {
         for finding in &mut left {
             if finding.as_ref().is_some_and(|it| it.order() == order) {
                 sorted.extend(finding.take());
@@ -34,7 +35,7 @@ pub(super) mod orders {
     pub(in super::super) const EARLIER_PANIC: u8 = 4;
     /// A loss that who failed was told last.
     pub(in super::super) const LOSS_OF_FAILED: u8 = 5;
-    /// The value that the last call of who failed returned.
+    /// The value that the last call of who failed returned, or what it was answered.
     pub(in super::super) const LAST_VALUE: u8 = 6;
     pub(in super::super) const LOSS_TOLD: u8 = 7;
     pub(in super::super) const LOSS_UNTOLD: u8 = 8;
@@ -47,7 +48,12 @@ pub(super) mod orders {
     pub(in super::super) const UNMARKED: u8 = 12;
     /// What lost or missed something was never used, or had ended.
     pub(in super::super) const UNUSED: u8 = 13;
+    /// A channel closed that had carried nothing, or of which a receiver wasn't told.
     pub(in super::super) const CLOSED: u8 = 14;
+    /// What the last call of who failed returned, where nothing says that it is why.
+    pub(in super::super) const OTHER_VALUE: u8 = 15;
+    /// A channel closed once it had carried something, and each receiver was told: so streams end.
+    pub(in super::super) const ENDED: u8 = 16;
 }
 
 /// How many facts are told in full where the first says what failed.
@@ -58,6 +64,7 @@ pub(super) enum Finding {
     Panic(Panicked),
     Loss(Lost),
     Silence(Silence),
+    Answered(Answered),
     Overlooked(Overlooked),
     Closing(Closed),
 }
@@ -72,12 +79,19 @@ impl Finding {
         let closings = closings.filter(|it| Some(it.channel()) != closed);
         let losses = losses::found(context).into_iter();
         let silences = silence::found(context).into_iter();
+        let asked = asked::found(context);
         let watches = watches::found(context).into_iter();
+        let watches = watches.filter(|it| {
+            let mut asked = asked.iter();
+            !asked.any(|asked| asked.tells_of(context, it.receiver()))
+        });
+        let watches: Vec<_> = watches.collect();
         let panics = panicked.into_iter().map(Finding::Panic);
         let all: Vec<_> = panics
             .chain(losses.map(Finding::Loss))
             .chain(silences.map(Finding::Silence))
-            .chain(watches.map(Finding::Overlooked))
+            .chain(asked.map(Finding::Answered))
+            .chain(watches.into_iter().map(Finding::Overlooked))
             .chain(closings.map(Finding::Closing))
             .collect();
         in_order(all)
@@ -90,6 +104,7 @@ impl Finding {
             Finding::Panic(_) => orders::EARLIER_PANIC,
             Finding::Loss(lost) => lost.order(),
             Finding::Silence(silence) => silence.order(),
+            Finding::Answered(answered) => answered.order(),
             Finding::Overlooked(overlooked) => overlooked.order(),
             Finding::Closing(closed) => closed.order(),
         }
@@ -97,8 +112,8 @@ impl Finding {
 
     /// Returns how many of these, which are in their order, are told in full: the first three.
     /// Where the first says what failed, the others are told only if they do too, and two are
-    /// enough. What was never used, and a close that failed nobody, is told only if nothing else
-    /// was found.
+    /// enough. What was never used is told only if nothing else was found, then a close that failed
+    /// nobody, and then one that ends a stream.
     pub(super) fn told_in_full(found: &[Finding]) -> usize {
         let says_why = found
             .first()
@@ -108,10 +123,9 @@ impl Finding {
         } else {
             (orders::UNUSED - 1, MOST_TOLD)
         };
-        let count = match found.partition_point(|finding| finding.order() <= last_order) {
-            0 => found.len(),
-            count => count,
-        };
+        let first = found.first().map_or(last_order, Finding::order);
+        let last_order = last_order.max(first);
+        let count = found.partition_point(|finding| finding.order() <= last_order);
         count.min(most)
     }
 
@@ -121,6 +135,7 @@ impl Finding {
             Finding::Panic(panicked) => panicked::fact(context, panicked),
             Finding::Loss(lost) => losses::fact(context, lost),
             Finding::Silence(silence) => silence::fact(context, silence),
+            Finding::Answered(asked) => asked::fact(context, asked),
             Finding::Overlooked(overlooked) => watches::fact(context, overlooked),
             Finding::Closing(closed) => closings::fact(context, closed),
         };

@@ -2,7 +2,7 @@
 
 use super::rest::KindCount;
 use super::window::WindowSaid;
-use super::{Account, Fact, FactStep, Failed, Rest, WaitAtEnd};
+use super::{Account, Fact, FactStep, Failed, PendingTask, Rest, WaitAtEnd};
 use crate::run::journal::{Loss, LossEnd};
 use crate::run::names::{Json, SourceLocation, push_string};
 use std::fmt::Write;
@@ -31,6 +31,9 @@ impl Account {
         push_member(&mut out, "rest", &rest(&self.rest));
         push_member(&mut out, "nothing", &optional_text(self.nothing.as_deref()));
         push_lines(&mut out, "waiting", self.waiting.iter().map(wait));
+        if !self.pending.is_empty() {
+            push_lines(&mut out, "tasks", self.pending.iter().map(pending));
+        }
         push_lines(&mut out, "losses", self.losses.iter().map(loss));
         push_member(&mut out, "failure", &optional_number(self.failure));
         push_member(&mut out, "look", &Json::number(self.look));
@@ -103,10 +106,15 @@ fn fact(fact: &Fact) -> Json {
     let places = fact.steps.iter().enumerate();
     let places = places.map(|(index, step)| place(index, step));
     members.push(("places", Json::List(places.collect())));
-    let text = fact.text();
-    let text = text.iter().map(|line| Json::text(line));
-    members.push(("text", Json::List(text.collect())));
+    if !fact.late.is_empty() {
+        members.push(("late", texts(&fact.late)));
+    }
+    members.push(("text", texts(&fact.text())));
     Json::object(members)
+}
+
+fn texts(texts: &[String]) -> Json {
+    Json::List(texts.iter().map(|text| Json::text(text)).collect())
 }
 
 /// A step of a fact, with the index of its line.
@@ -152,6 +160,15 @@ fn wait(wait: &WaitAtEnd) -> Json {
         ("since", Json::number(wait.since)),
         ("location", location_of(wait.location.as_ref())),
         ("text", Json::text(&wait.text)),
+    ])
+}
+
+fn pending(task: &PendingTask) -> Json {
+    Json::object(vec![
+        ("name", Json::text(&task.name)),
+        ("actor", optional_number(task.actor)),
+        ("since", Json::number(task.since)),
+        ("text", Json::text(&task.text)),
     ])
 }
 

@@ -4,6 +4,7 @@
 use super::fact::{Fact, FactStep, Role};
 use super::failure::FailureAt;
 use super::finding::orders;
+use super::lateness::{self, Late};
 use super::naming::Called;
 use super::traffic::LostValues;
 use super::{Context, visible};
@@ -48,6 +49,8 @@ pub(super) struct Lost {
     // The loss that is told in detail, and its index among those of the traffic.
     told: Loss,
     index: usize,
+    // Where the latest of its losses began.
+    latest: u64,
 }
 
 /// How a loss ended, as the account tells it.
@@ -98,6 +101,7 @@ pub(super) fn found(context: &Context<'_>) -> Vec<Lost> {
             rank,
             told: *loss,
             index,
+            latest: loss.from,
         };
         match by_receiver.get_mut(&key) {
             Some(lost) => lost.add(one),
@@ -140,6 +144,7 @@ impl Lost {
     fn add(&mut self, other: Lost) {
         self.count += other.count;
         self.losses += 1;
+        self.latest = self.latest.max(other.latest);
         let is_greater = other.rank == self.rank && other.told.lost > self.told.lost;
         if other.rank < self.rank || is_greater {
             (self.rank, self.told, self.index) = (other.rank, other.told, other.index);
@@ -163,12 +168,54 @@ pub(super) fn fact(context: &Context<'_>, lost: &Lost) -> Fact {
             end_step(context, lost, end),
         ],
         last: Some(lost_line(context, loss, &values)),
+        late: late(context, lost, &values, end),
         sights: match end {
             ToldEnd::Told(_) => vec![1, 0],
             _ => vec![0, 1],
         },
         look: look(context, loss, end),
     }
+}
+
+/// Whether a loss began in the lead, whose entries nobody has called.
+fn began_in_lead(context: &Context<'_>, loss: &Loss) -> bool {
+    loss.from <= context.history.lead
+}
+
+/// Says why the receiver was late. A window that begins behind the send doesn't have it.
+fn late(context: &Context<'_>, lost: &Lost, values: &LostValues<'_>, end: ToldEnd) -> Vec<String> {
+    let loss = &lost.told;
+    if began_in_lead(context, loss) {
+        return vec![];
+    }
+    let received = context.traffic.losses()[lost.index].received;
+    let actor_of = |place: u64| u64::from(context.run.entry(place).actor);
+    let mut waiting = context.names.waiting.iter();
+    let waiting = waiting
+        .find(|call| (call.channel, call.handle) == (loss.channel.into(), loss.receiver.into()));
+    let (actor, told) = match (end, received, waiting) {
+        (ToldEnd::Told(place), ..) => (Some(actor_of(place)), place),
+        (_, 1.., _) => (Some(actor_of(received)), 0),
+        (_, 0, waiting) => (waiting.map(|call| call.actor), 0),
+    };
+    let Some(actor) = actor else {
+        return vec![];
+    };
+    let Spec::Broadcast(given) = context.run.specs()[loss.channel as usize] else {
+        return vec![];
+    };
+    let unread = values.rest.first().map_or(0, |value| value.since);
+    let late = Late {
+        channel: loss.channel,
+        receiver: loss.receiver,
+        actor,
+        received,
+        told,
+        since: unread.max(received),
+        sent: loss.from,
+        retained: given.next_power_of_two() as u64,
+    };
+    lateness::lines(context, &late)
 }
 
 /// Returns the call that is worth looking at: the cause, or where that was before the window, the
@@ -219,6 +266,7 @@ fn members(
     if came.is_most {
         members.push(("at_most", Json::Bool(true)));
     }
+    members.extend(idle(context, lost).map(|time| ("idle", Json::number(time))));
     members
 }
 
@@ -232,8 +280,10 @@ fn headline(context: &Context<'_>, lost: &Lost, receiver: &Called) -> String {
     let came = context.traffic.channel(channel).came_to(number);
     let at_most = if came.is_most { "at most " } else { "" };
     let which = match lost.rank {
-        Rank::LastCall | Rank::ToldLast(_) => "the one told before the failure",
-        Rank::Told(..) => "the last",
+        Rank::LastCall | Rank::ToldLast(_) if lost.latest > lost.told.from => {
+            "the one told before the failure"
+        }
+        Rank::LastCall | Rank::ToldLast(_) | Rank::Told(..) => "the last",
         Rank::Untold | Rank::Held => "the worst",
     };
     let several = match lost.losses {
@@ -256,7 +306,8 @@ fn headline(context: &Context<'_>, lost: &Lost, receiver: &Called) -> String {
     )
 }
 
-fn capacity(context: &Context<'_>, channel: u32) -> String {
+/// As `capacity 4`, and where it retains more, `capacity 3, which retains 4`.
+pub(super) fn capacity(context: &Context<'_>, channel: u32) -> String {
     match context.run.specs()[channel as usize] {
         Spec::Broadcast(given) if given.is_power_of_two() => format!("capacity {given}"),
         Spec::Broadcast(given) => {
@@ -274,7 +325,7 @@ fn cause(
     values: &LostValues<'_>,
     receiver: &Called,
 ) -> FactStep {
-    if loss.from <= context.history.lead {
+    if began_in_lead(context, loss) {
         return context.step_before("the overwriting began".to_string());
     }
     let naming = context.naming;
@@ -329,5 +380,23 @@ fn last_receive(context: &Context<'_>, lost: &Lost) -> String {
         return format!("its last receive: none {before}");
     }
     let value = context.naming.returned(&context.run.entry(place));
-    format!("its last receive: {}, {value}", visible::call(place))
+    let before = idle(context, lost).map_or(String::new(), |time| {
+        format!(", {} before the loss", visible::duration(time))
+    });
+    format!(
+        "its last receive: {}, {value}{before}",
+        visible::call(place)
+    )
+}
+
+/// Returns how many microseconds the receiver's last receive was before the send that overwrote the
+/// first value, where the run has a clock.
+fn idle(context: &Context<'_>, lost: &Lost) -> Option<u64> {
+    let received = context.traffic.losses()[lost.index].received;
+    let lead = context.history.lead;
+    if received <= lead || lost.told.from <= lead {
+        return None;
+    }
+    let time_of = |place| context.times.at(context.run.entry(place).stamp);
+    Some(time_of(received)?.until(&time_of(lost.told.from)?))
 }

@@ -147,6 +147,7 @@ pub(super) fn fact(context: &Context<'_>, panicked: &Panicked) -> Fact {
         look: at.place,
         steps,
         last: None,
+        late: vec![],
     }
 }
 

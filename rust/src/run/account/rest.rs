@@ -73,6 +73,8 @@ impl Rest {
                 }
                 Finding::Silence(_) => (&mut rest.waits, 0),
                 Finding::Panic(_) => (&mut rest.panics, 0),
+                // It is the only one of its order, and told.
+                Finding::Answered(_) => continue,
                 Finding::Overlooked(it) if it.what == Unreceived::Learned => {
                     (&mut rest.unlearned, it.count)
                 }

@@ -1,14 +1,14 @@
 //! Calls that got nothing: one that still waits, one that waited and was dropped, one that found
 //! nothing, and sends that reached nobody. It is said what could have ended the wait: who still
-//! holds a sender, and whether a value came before the receiver. And the value that the last call
-//! of who failed returned.
+//! holds a sender, and whether a value came before the receiver.
 
 use super::fact::{Fact, FactStep, Role};
 use super::failure::FailureAt;
 use super::finding::orders;
 use super::history::Unreached;
-use super::{Context, visible};
-use crate::run::journal::Spec;
+use super::nothing_came::NothingCame;
+use super::reading::last_drop;
+use super::{Context, last_change, lateness, locked, value, visible, waits};
 use crate::run::names::{Json, WaitingCall};
 use crate::run::reply::Reply;
 
@@ -20,14 +20,14 @@ const TIMED_OUT: [&str; 4] = ["Elapsed", "deadline has elapsed", "timed out", "t
 
 /// What got nothing.
 pub(super) enum Silence {
-    /// A call that waits, by its index among those.
+    /// A call that waits, or waited when the test failed, by its index among those.
     Waits(usize),
     /// A call that waited and was dropped, by its index among those.
     Dropped(usize),
     /// The last call of who failed, which found nothing, and whether the failure names it.
     Empty(u64, bool),
-    /// The last call of who failed, which returned a value.
-    Value(u64),
+    /// The last call of who failed, which returned a value, and whether that may be why.
+    Value(u64, bool),
     /// The sends of a channel that reached nobody. The last call of who failed may be one.
     Unreached(u32, Unreached, bool),
 }
@@ -39,7 +39,8 @@ impl Silence {
             Silence::Waits(_) | Silence::Dropped(_) => orders::WAITED,
             Silence::Empty(_, true) | Silence::Unreached(_, _, true) => orders::LAST_CALL,
             Silence::Empty(_, false) => orders::REFUSED_BEFORE,
-            Silence::Value(_) => orders::LAST_VALUE,
+            Silence::Value(_, true) => orders::LAST_VALUE,
+            Silence::Value(_, false) => orders::OTHER_VALUE,
             Silence::Unreached(..) => orders::UNREACHED,
         }
     }
@@ -49,9 +50,9 @@ impl Silence {
     /// The channel of which it tells that sends reached nobody.
     fn tells_unreached(&self, context: &Context<'_>) -> Option<u32> {
         let (channel, handle) = match self {
-            Silence::Waits(index) => of_wait(&context.names.waiting[*index]),
+            Silence::Waits(index) => of_wait(waits::at_failure(context, *index)),
             Silence::Dropped(index) => of_wait(&context.names.dropped_waits[*index]),
-            Silence::Empty(place, _) | Silence::Value(place) => {
+            Silence::Empty(place, _) | Silence::Value(place, _) => {
                 let entry = context.run.entry(*place);
                 (entry.channel, entry.handle)
             }
@@ -75,14 +76,21 @@ pub(super) fn found(context: &Context<'_>) -> Vec<Silence> {
     let empty = last.filter(|_| reply == Some(Reply::Empty));
     let failed = last.filter(|_| matches!(reply, Some(Reply::NoReceivers(_))));
     let failed = failed.map(|place| context.run.entry(place).channel);
-    let value = last.filter(|_| matches!(reply, Some(Reply::Value(_))));
+    let is_value = |place: &u64| matches!(context.run.entry(*place).reply, Reply::Value(_));
+    let value = last.filter(is_value).map(|place| (place, true));
+    let other = context.failure.other_last_call();
+    let other = other.filter(|place| value::is_explained(context, *place));
+    let value = value.or(other.map(|place| (place, false)));
     let is_named = context.failure.names_last_call();
     let empty = empty
         .map(|place| Silence::Empty(place, is_named))
         .into_iter();
-    let value = value.into_iter().map(Silence::Value);
+    let value = value
+        .into_iter()
+        .map(|(place, is_why)| Silence::Value(place, is_why));
     let dropped = dropped(context).into_iter().map(Silence::Dropped);
-    let found = dropped.chain(waits(context)).chain(empty).chain(value);
+    let waits = waits_of_failure(context);
+    let found = dropped.chain(waits).chain(empty).chain(value);
     let mut found: Vec<_> = found.collect();
     let told: Vec<_> = found
         .iter()
@@ -100,16 +108,21 @@ pub(super) fn found(context: &Context<'_>) -> Vec<Silence> {
     found
 }
 
-/// Returns the calls that wait, if the failure came of a wait.
-fn waits(context: &Context<'_>) -> impl Iterator<Item = Silence> {
+/// Returns the calls that waited when the test failed, or that wait now if it hangs: if the failure
+/// came of a wait. The one that began first is the first.
+fn waits_of_failure(context: &Context<'_>) -> impl Iterator<Item = Silence> {
     let channels = context.run.specs().len() as u64;
     let is_why = match context.failure.end() {
         None => context.names.ending.hangs,
         Some(_) => has_timed_out(context),
     };
-    let calls = context.names.waiting.iter().enumerate();
-    let calls = calls.filter(move |(_, call)| is_why && call.channel < channels);
-    calls.map(|(index, _)| Silence::Waits(index))
+    let names = context.names;
+    let calls = names.waiting.iter().chain(&names.waited_at_failure);
+    let calls = calls.enumerate();
+    let calls = calls.filter(|(_, call)| is_why && call.channel < channels);
+    let mut calls: Vec<_> = calls.map(|(index, call)| (call.since, index)).collect();
+    calls.sort_unstable();
+    calls.into_iter().map(|(_, index)| Silence::Waits(index))
 }
 
 /// Whether the text of the failure says that a time was over.
@@ -134,10 +147,10 @@ fn dropped(context: &Context<'_>) -> Option<usize> {
 /// Puts it into words.
 pub(super) fn fact(context: &Context<'_>, silence: &Silence) -> Fact {
     match silence {
-        Silence::Waits(index) => waited(context, &context.names.waiting[*index]),
+        Silence::Waits(index) => waited(context, waits::at_failure(context, *index)),
         Silence::Dropped(index) => waited(context, &context.names.dropped_waits[*index]),
         Silence::Empty(place, _) => found_nothing(context, *place),
-        Silence::Value(place) => got_value(context, *place),
+        Silence::Value(place, _) => value::fact(context, *place),
         Silence::Unreached(_, _, true) => refused_send(context),
         Silence::Unreached(channel, unreached, _) => reached_nobody(context, *channel, *unreached),
     }
@@ -165,8 +178,33 @@ fn waited(context: &Context<'_>, call: &WaitingCall) -> Fact {
         .failure
         .end()
         .map_or(until, |end| until.min(end.place));
-    let why = NothingCame::of(context, (channel, handle), until);
-    let mut steps: Vec<_> = why.steps(context).collect();
+    let (why, mut steps, last) = match call.held_by {
+        // Nothing that is sent could end this.
+        Some(by) => {
+            let look = locked::step(context, call, by);
+            (locked::text(context, by), Vec::from_iter(look), None)
+        }
+        None => {
+            let why = NothingCame::of(context, (channel, handle), until);
+            let senders = who_could_end(context, call, until);
+            match came_meanwhile(context, call, &why) {
+                Some(sent) => {
+                    let said = "came, and the call was not polled since".to_string();
+                    let step = context.call_step(sent, Role::Sent, said);
+                    let text = format!(
+                        "it was not polled since {}, which ends it",
+                        visible::call(sent)
+                    );
+                    (text, vec![step], None)
+                }
+                None => {
+                    let steps = why.steps(context);
+                    let steps = steps.chain(last_change::steps(context, call, until));
+                    (why.text(context), steps.collect(), senders)
+                }
+            }
+        }
+    };
     let location = call.location.and_then(|index| naming.source(index));
     steps.push(FactStep {
         place: since,
@@ -196,12 +234,20 @@ fn waited(context: &Context<'_>, call: &WaitingCall) -> Fact {
             ("name", Json::text(&who)),
             ("waited", call.waited.map_or(Json::Null, Json::number)),
         ],
-        head: format!("`{method}` of {who} {verb}: {}", why.text(context)),
+        head: format!("`{method}` of {who} {verb}: {why}"),
         sights: (0..steps.len()).rev().collect(),
         look: since,
         steps,
-        last: who_could_end(context, call, until),
+        last,
+        late: lateness::of_wait(context, call, until),
     }
+}
+
+/// Returns the last send if it came while this call waited for one, and would have ended it.
+fn came_meanwhile(context: &Context<'_>, call: &WaitingCall, why: &NothingCame) -> Option<u64> {
+    let ends = matches!(call.call.as_str(), "recv" | "changed");
+    let sent = Some(why.sent).filter(|sent| ends && *sent > context.place_of(call.since));
+    sent.filter(|sent| *sent > context.history.lead)
 }
 
 /// Puts the last call of who failed into words, which found nothing.
@@ -225,71 +271,8 @@ fn found_nothing(context: &Context<'_>, place: u64) -> Fact {
         look: place,
         steps,
         last: None,
+        late: vec![],
     }
-}
-
-/// Puts the value into words that the last call of who failed returned: who sent it, and whether it
-/// was still the last.
-fn got_value(context: &Context<'_>, place: u64) -> Fact {
-    let naming = context.naming;
-    let entry = context.run.entry(place);
-    let Reply::Value(value) = entry.reply else {
-        unreachable!("it is the call that returned a value");
-    };
-    let receiver = naming.receiver(entry.channel, entry.handle);
-    let sent = sent_at(context, entry.channel, (value, place));
-    let last = last_sent(context, entry.channel, place);
-    let by = match sent {
-        Some(sent) => {
-            let by = naming.actor(context.run.entry(sent).actor.into());
-            format!("which {by} sent ({})", visible::call(sent))
-        }
-        None => "with which it was created".to_string(),
-    };
-    let is_last = match context.run.specs()[entry.channel as usize] {
-        Spec::Watch(_) if last == sent.unwrap_or(0) => ": it was not changed since",
-        _ => "",
-    };
-    let step = |place: u64, role, said: &str| {
-        let call = naming.call(place, &context.run.entry(place));
-        context.step(place, role, call, said.to_string())
-    };
-    let sent_step = sent.map(|sent| step(sent, Role::Sent, "sent it"));
-    let mut steps: Vec<_> = sent_step.into_iter().collect();
-    steps.push(step(
-        place,
-        Role::Told,
-        &format!("returned {}", naming.reply(&entry)),
-    ));
-    Fact {
-        order: orders::LAST_VALUE,
-        kind: "value",
-        members: vec![
-            ("channel", Json::number(entry.channel)),
-            ("receiver", Json::number(entry.handle)),
-            ("name", Json::text(&receiver.short)),
-            ("value", Json::number(value)),
-        ],
-        head: format!(
-            "{} got {} of {}, {by}{is_last}",
-            receiver.full,
-            naming.reply(&entry),
-            naming.channel(entry.channel),
-        ),
-        sights: (0..steps.len()).rev().collect(),
-        look: place,
-        steps,
-        last: None,
-    }
-}
-
-/// Returns the place of the send of a value that a call returned.
-fn sent_at(context: &Context<'_>, channel: u32, (value, returned): (u64, u64)) -> Option<u64> {
-    let mut places = (context.history.lead + 1..returned).rev();
-    places.find(|place| {
-        let entry = context.run.entry(*place);
-        entry.channel == channel && entry.value == Some(value)
-    })
 }
 
 /// Puts sends that reached nobody into words.
@@ -299,17 +282,20 @@ fn reached_nobody(context: &Context<'_>, channel: u32, unreached: Unreached) -> 
     let handles = context.history.channel(channel).handles();
     let later = handles.filter(|(_, handle)| handle.is_receiver && handle.made > first);
     let later = later.map(|(number, handle)| (handle.made, number)).min();
-    let sends = match count {
-        1 => "a send".to_string(),
-        count => format!("{} sends", visible::number(count)),
-    };
+    let sends = visible::sends(count);
     let then = match later {
         Some((made, number)) => format!(
             "; {} was created later ({})",
             naming.receiver(channel, number).short,
             visible::call(made)
         ),
-        None => String::new(),
+        None => last_drop(context, channel, first).map_or(String::new(), |dropped| {
+            format!(
+                ", since {} the last receiver ({})",
+                context.who_dropped(dropped),
+                visible::call(dropped)
+            )
+        }),
     };
     let step = |place: u64, said: &str| {
         let call = naming.call(place, &context.run.entry(place));
@@ -336,6 +322,7 @@ fn reached_nobody(context: &Context<'_>, channel: u32, unreached: Unreached) -> 
         look: first,
         steps,
         last: None,
+        late: vec![],
     }
 }
 
@@ -344,21 +331,16 @@ fn refused_send(context: &Context<'_>) -> Fact {
     let place = context.failure.last_call().expect("it is the send");
     let entry = context.run.entry(place);
     let naming = context.naming;
-    let handles = context.history.channel(entry.channel).handles();
-    let dropped = handles.filter_map(|(_, handle)| {
-        let (dropped, by) = handle.dropped.filter(|_| handle.is_receiver)?;
-        (dropped < place).then_some((dropped, by))
-    });
-    let dropped = dropped.max();
+    let dropped = last_drop(context, entry.channel, place);
     let why = match dropped {
-        Some((dropped, by)) => format!(
-            "since {} dropped the last receiver ({})",
-            naming.actor(by.into()),
+        Some(dropped) => format!(
+            "since {} the last receiver ({})",
+            context.who_dropped(dropped),
             visible::call(dropped)
         ),
         None => "since there was none yet".to_string(),
     };
-    let close = dropped.map(|(dropped, _)| {
+    let close = dropped.map(|dropped| {
         let what = "dropped the last receiver".to_string();
         context.step(dropped, Role::Close, what, String::new())
     });
@@ -377,78 +359,15 @@ fn refused_send(context: &Context<'_>) -> Fact {
             naming.channel(entry.channel)
         ),
         sights: (0..steps.len()).rev().collect(),
-        look: dropped.map_or(place, |(dropped, _)| dropped),
+        look: dropped.unwrap_or(place),
         steps,
         last: None,
-    }
-}
-
-/// Why a receiver has nothing to receive.
-struct NothingCame {
-    channel: u32,
-    receiver: u32,
-    /// The place of the last send or change before the call, or 0.
-    sent: u64,
-    /// Where the receiver was created.
-    made: u64,
-    /// The sends that reached nobody, if they came before it.
-    unreached: Option<Unreached>,
-}
-
-impl NothingCame {
-    /// Why the receiver of a channel has nothing at a place.
-    fn of(context: &Context<'_>, (channel, receiver): (u32, u32), at: u64) -> NothingCame {
-        let history = context.history.channel(channel);
-        let made = history.handle(receiver).map_or(0, |handle| handle.made);
-        NothingCame {
-            channel,
-            receiver,
-            sent: last_sent(context, channel, at),
-            made,
-            unreached: history.unreached.filter(|sends| sends.last < made),
-        }
-    }
-
-    /// The last send before the receiver was created, if none came since.
-    fn early(&self) -> Option<u64> {
-        let unreached = self.unreached.map_or(0, |sends| sends.last);
-        let last = self.sent.max(unreached);
-        (last > 0 && last < self.made).then_some(last)
-    }
-
-    fn text(&self, context: &Context<'_>) -> String {
-        let channel = context.naming.channel(self.channel);
-        let is_watch = matches!(context.run.specs()[self.channel as usize], Spec::Watch(_));
-        if let Some(early) = self.early() {
-            let receiver = context.naming.receiver(self.channel, self.receiver).short;
-            let early = visible::call(early);
-            let what = if is_watch { "change" } else { "value" };
-            return format!("the last {what} came before {receiver} was created ({early})");
-        }
-        let sent = visible::call(self.sent);
-        match self.sent {
-            0 if is_watch => format!("{channel} was never changed"),
-            0 => format!("nothing was sent to {channel}"),
-            _ if is_watch => format!("{channel} wasn't changed since {sent}"),
-            _ => format!("nothing was sent to {channel} since {sent}"),
-        }
-    }
-
-    /// The send that came too early, and where the receiver was created.
-    fn steps(&self, context: &Context<'_>) -> impl Iterator<Item = FactStep> {
-        let early = self.early();
-        let step = |place: u64, role, said: &str| {
-            let call = context.naming.call(place, &context.run.entry(place));
-            context.step(place, role, call, said.to_string())
-        };
-        let sent = early.map(|early| step(early, Role::Sent, "came before it was created"));
-        let made = early.map(|_| step(self.made, Role::Begin, "created it"));
-        sent.into_iter().chain(made)
+        late: vec![],
     }
 }
 
 /// Returns the place of the last call up to a place that sent a value to a channel, or changed it.
-fn last_sent(context: &Context<'_>, channel: u32, at: u64) -> u64 {
+pub(super) fn last_sent(context: &Context<'_>, channel: u32, at: u64) -> u64 {
     let last = context.history.channel(channel).last_sent;
     if last <= at {
         return last;

@@ -1,6 +1,6 @@
 //! The order of the account, and what isn't told, for small runs that are worked by hand.
 
-use super::Account;
+use super::{Account, Level};
 use crate::run::names::Names;
 
 /// Returns the account of a run: its channels, its entries with the stamps 1, 2, 3, .., and the
@@ -246,6 +246,120 @@ fn a_close_that_each_receiver_was_told_of_is_counted_beside_other_facts() {
     assert_eq!((found.rest.after, found.rest.text()), (1, None));
 }
 
+/// Returns the levels of the facts.
+fn levels(account: &Account) -> Vec<Level> {
+    account.with_levels().map(|(level, _)| level).collect()
+}
+
+#[test]
+fn a_close_that_ends_a_stream_is_told_after_all_else() {
+    let entries = [
+        "0 0 send 0 0 = sent 1",
+        "0 0 drop 0 = dropped",
+        "1 0 recv 1 = value 0",
+        "1 0 recv 1 = closed",
+        "0 1 drop 0 = dropped",
+        "1 1 changed 1 = closed",
+    ];
+    let [nothing, stream] =
+        [1, 0].map(|it| format!("channel {it} closed, and its receiver was told"));
+    let found = account(&["broadcast 1", "watch 0"], &entries, "{}");
+    assert_eq!(heads(&found), [&nothing, &stream]);
+    assert_eq!(orders(&found), [14, 16]);
+    assert_eq!(levels(&found), [Level::Warning, Level::Note]);
+    let rest = (found.rest.after, found.rest.text());
+    assert_eq!(rest, (1, Some("and 1 more channel closed".to_string())));
+    // Alone, it is told. A receiver that wasn't told is another matter.
+    let found = account(&["broadcast 1"], &entries[..4], "{}");
+    assert_eq!(
+        (heads(&found), levels(&found)),
+        (vec![&*stream], vec![Level::Note])
+    );
+    let found = account(&["broadcast 1"], &entries[..3], "{}");
+    assert_eq!(
+        (orders(&found), levels(&found)),
+        (vec![14], vec![Level::Warning])
+    );
+    // So is a change of a watch something that it carried, also where nobody looked.
+    let changed = [
+        "0 0 send 0 7 = stored",
+        "0 0 drop 0 = dropped",
+        "1 0 changed 1 = done",
+        "1 0 changed 1 = closed",
+    ];
+    let found = account(&["watch 0"], &changed, "{}");
+    assert_eq!(
+        (orders(&found).last(), found.facts.last().unwrap().kind),
+        (Some(&16), "closing")
+    );
+}
+
+#[test]
+fn a_wait_of_another_than_who_failed_is_no_error() {
+    let waiting = r#""waiting": [{"actor": 1, "channel": 0, "handle": 1, "call": "recv", "since": 0, "location": null}]"#;
+    let wait = "`channel 0: recv` of actor 1 waits: nothing was sent to channel 0";
+    for (ending, level) in [
+        (
+            r#""panics": [{"text": "Elapsed(())", "location": null, "actor": 0, "since": 0}]"#,
+            Level::Warning,
+        ),
+        (r#""hangs": true"#, Level::Error),
+    ] {
+        let found = account(&["broadcast 1"], &[], &format!("{{{waiting}, {ending}}}"));
+        assert_eq!((heads(&found), levels(&found)), (vec![wait], vec![level]));
+    }
+}
+
+#[test]
+fn a_call_that_waits_for_a_lock_is_told_whose_look_holds_it() {
+    // Actor 1 looks twice, and takes the look that it holds before it waits on line 8.
+    let entries = [
+        "1 0 borrow 1 = value 0",
+        "0 0 borrow 0 = value 0",
+        "1 0 borrow 1 = value 0",
+    ];
+    let names = r#"{"hangs": true, "locations": [["a.rs", 7, 1], ["a.rs", 8, 1], ["a.rs", 9, 1]], "calls": {"0": [2, 0, 0]},
+        "waiting": [{"actor": 1, "channel": 0, "handle": 0, "call": "send", "since": 3, "location": 1, "held_by": {"actor": 1, "location": 0}}]}"#;
+    let found = account(&["watch 0"], &entries, names);
+    let head = "`channel 0: send` of actor 1 waits: a look taken at a.rs:7 by actor 1 holds the lock of the value";
+    let below = [
+        "  call 3   channel 0: borrow()   actor 1  a.rs:7   holds the lock",
+        "  call 3   channel 0: send       actor 1  a.rs:8   waits",
+    ];
+    assert_told(&found, &[head], 0, &below);
+    // Of a look that nobody knows, or of another thread.
+    let names = names.replace(
+        r#""held_by": {"actor": 1, "location": 0}"#,
+        r#""held_by": {"actor": null, "location": null}"#,
+    );
+    let head = "`channel 0: send` of actor 1 waits: another call holds the lock of the value";
+    let below = ["  call 3   channel 0: send   actor 1  a.rs:8   waits"];
+    assert_told(&account(&["watch 0"], &entries, &names), &[head], 0, &below);
+}
+
+#[test]
+fn a_task_that_was_cancelled_is_told_from_one_that_ended() {
+    let entries = ["1 0 drop 0 = dropped", "0 0 recv 1 = closed"];
+    let ended = r#""panics": [{"text": "a row: Closed", "location": null, "actor": 0, "since": 2}], "failed": true,
+        "dropped_in": {"0": {"0": "shop::import"}}"#;
+    for (names, how, said) in [
+        ("", "dropped", "in shop::import"),
+        (
+            r#", "cancelled": {"0": [0]}"#,
+            "was cancelled and dropped",
+            "cancelled in shop::import",
+        ),
+    ] {
+        let found = account(&["broadcast 1"], &entries, &format!("{{{ended}{names}}}"));
+        let head = format!(
+            "receiver 1 was told Closed, since actor 1 {how} the last sender of channel 0 (call 1)"
+        );
+        let wanted = format!("  call 1   dropped the last sender   actor 1  {said}");
+        let text = found.facts[0].text();
+        assert_eq!((&text[0], text[1].trim_end()), (&head, &*wanted));
+    }
+}
+
 #[test]
 fn a_look_and_a_mark_are_two_facts() {
     // Receiver 1 looks at the values 1 and 2 by `borrow`, and asks whether there is a new one.
@@ -399,4 +513,16 @@ fn a_long_run_is_told_as_a_short_one() {
         "receiver 1 never learned of 50000 of 50000 changes of channel 1",
     ];
     assert_eq!(heads(&found), wanted);
+}
+
+#[test]
+fn a_call_that_waits_for_a_lock_names_whose_look_holds_it_and_not_who_waits() {
+    let names = r#"{"channels": {"0": "state"}, "actors": {"0": "main", "1": "worker"}, "hangs": true,
+        "locations": [["src/bus.rs", 8, 5], ["src/bus.rs", 9, 5]],
+        "waiting": [{"actor": 1, "channel": 0, "handle": 0, "call": "send", "since": 1, "location": 1, "held_by": {"actor": 0, "location": 0}}]}"#;
+    let found = account(&["watch 0"], &["0 0 borrow 1 = value 0"], names);
+    let wanted = "worker in `state.send` since call 1, src/bus.rs:9, for a look taken at src/bus.rs:8 by main";
+    assert_eq!(found.waiting[0].text, wanted);
+    let head = heads(&found)[0];
+    assert!(head.contains("src/bus.rs:8 by main"), "{head}");
 }

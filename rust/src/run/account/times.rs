@@ -91,6 +91,11 @@ impl CallTime {
         }
     }
 
+    /// How many microseconds later another call was made.
+    pub(super) fn until(&self, later: &CallTime) -> u64 {
+        self.before_dump.saturating_sub(later.before_dump)
+    }
+
     /// As `2026-11-29T03:12:45.120Z`.
     pub(super) fn iso(&self) -> String {
         let (date, clock) = date_and_clock(self.wall);

@@ -75,6 +75,26 @@ pub(super) fn number(number: u64) -> String {
     word.map_or_else(|| number.to_string(), |word| word.to_string())
 }
 
+/// Returns a number of values as words.
+pub(super) fn values(count: u64) -> String {
+    let end = if count == 1 { "" } else { "s" };
+    format!("{} value{end}", number(count))
+}
+
+/// Returns a number of sends as words.
+pub(super) fn sends(count: u64) -> String {
+    match count {
+        1 => "a send".to_string(),
+        count => format!("{} sends", number(count)),
+    }
+}
+
+/// Returns a number of receivers as words.
+pub(super) fn receivers(count: u64) -> String {
+    let end = if count == 1 { "" } else { "s" };
+    format!("{} receiver{end}", number(count))
+}
+
 /// Returns which of several things one is, as `1st` or `22nd`.
 pub(super) fn nth(number: u64) -> String {
     let end = match (number % 10, number % 100) {

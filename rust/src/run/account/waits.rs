@@ -3,7 +3,7 @@
 use super::finding::Finding;
 use super::silence::Silence;
 use super::window::BEFORE;
-use super::{Context, visible};
+use super::{Context, last_change, visible};
 use crate::run::names::{HeldBy, SourceLocation, WaitingCall};
 
 /// A call that waits.
@@ -27,6 +27,14 @@ impl WaitAtEnd {
     pub(crate) fn location(&self) -> Option<&SourceLocation> {
         self.location.as_ref()
     }
+}
+
+/// Returns a call by its index among those that wait, and then those that waited when the test
+/// failed.
+pub(super) fn at_failure<'a>(context: &Context<'a>, index: usize) -> &'a WaitingCall {
+    let names = context.names;
+    let ended = |index| &names.waited_at_failure[index - names.waiting.len()];
+    names.waiting.get(index).unwrap_or_else(|| ended(index))
 }
 
 /// Returns the calls that wait on channels of the run. These findings are told in full.
@@ -78,12 +86,14 @@ fn text(
     let at = location.map_or(String::new(), |location| {
         format!(", {}", visible::line_of(location))
     });
+    let came = last_change::came_since(context, call);
     format!(
-        "{} in `{}` since {since}{at}{}",
+        "{} in `{}` since {since}{at}{}{}",
         naming.actor(call.actor),
         naming.method(call.channel as u32, &visible::name(&call.call)),
         call.held_by
             .map_or(String::new(), |by| held_by(context, by)),
+        came.unwrap_or_default(),
     )
 }
 

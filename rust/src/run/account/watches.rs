@@ -7,6 +7,7 @@
 use super::fact::{Fact, FactStep, Role};
 use super::finding::orders;
 use super::history::HandleHistory;
+use super::lateness::{self, Late};
 use super::{Context, visible};
 use crate::run::journal::{Counts, Totals};
 use crate::run::names::Json;
@@ -41,6 +42,11 @@ enum Use {
 }
 
 impl Overlooked {
+    /// The channel and the receiver.
+    pub(super) fn receiver(&self) -> (u32, u32) {
+        (self.channel, self.receiver)
+    }
+
     /// The number of the rule that orders it.
     pub(super) fn order(&self) -> u8 {
         match self.what {
@@ -180,7 +186,37 @@ pub(super) fn fact(context: &Context<'_>, overlooked: &Overlooked) -> Fact {
         sights,
         steps,
         last: None,
+        late: late(context, overlooked),
     }
+}
+
+/// Says why a receiver hadn't learned of the last change when that came.
+fn late(context: &Context<'_>, overlooked: &Overlooked) -> Vec<String> {
+    let Overlooked {
+        channel,
+        receiver,
+        look,
+        ..
+    } = *overlooked;
+    let change = context.traffic.channel(channel).last_came_to(receiver);
+    let change = change.map_or(0, |value| value.since);
+    let user = context.history.channel(channel).handle(receiver);
+    let user = user.and_then(|handle| handle.last_user);
+    let is_known = change > look && change > context.history.lead;
+    let Some(user) = user.filter(|_| is_known && overlooked.what == Unreceived::Learned) else {
+        return vec![];
+    };
+    let late = Late {
+        channel,
+        receiver,
+        actor: user.into(),
+        received: look,
+        told: 0,
+        since: change,
+        sent: change,
+        retained: 1,
+    };
+    lateness::lines(context, &late)
 }
 
 /// Returns the last change that came to a receiver, and its last look if it ever looked, in their

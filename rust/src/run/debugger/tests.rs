@@ -81,9 +81,9 @@ fn searched(walk: &mut Walk, random: &mut Random) -> (String, String) {
     (answers, commands)
 }
 
-/// Returns what the console of `ttd` answers, if the variable `YOVANELUM_TTD` names the program.
+/// Returns what the console of `ttd` answers, or `None` where no program can be started.
 fn console(journal: &str, commands: &str) -> Option<String> {
-    let ttd = std::env::var_os("YOVANELUM_TTD")?;
+    let ttd = console::ttd()?;
     let path = crate::temporary::path("walked.journal");
     std::fs::write(&path, journal).unwrap();
     let written = console::written(&ttd, &path, commands);

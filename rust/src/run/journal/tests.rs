@@ -106,10 +106,10 @@ pub(crate) fn random_journal(seed: u64) -> String {
     text_of(&random_channels(&mut random_of(seed)), u64::MAX)
 }
 
-/// Asserts that the program `ttd` accepts the journal text, which has this many entries. Without
-/// the variable that names it, nothing is asked.
+/// Asserts that the program `ttd` accepts the journal text, which has this many entries, where a
+/// program can be started.
 fn assert_accepted(text: &str, entries: u64) {
-    let Some(ttd) = std::env::var_os("YOVANELUM_TTD") else {
+    let Some(ttd) = crate::console::ttd() else {
         return;
     };
     let path = crate::temporary::path("cut.journal");

@@ -21,6 +21,8 @@ pub(crate) struct TestId {
     pub(crate) thread: String,
     /// How many recorders with this name that thread had made before.
     pub(crate) nth: u64,
+    /// Whether a package stood for tokio in its build.
+    pub(crate) patched: bool,
 }
 
 /// A panic of a thread or task that the recorder follows.
@@ -42,6 +44,8 @@ pub(crate) struct Panic {
 /// That the test returned an `Err`.
 #[derive(Clone, Debug, PartialEq, Eq)]
 pub(crate) struct Returned {
+    /// What its `Debug` prints.
+    pub(crate) text: String,
     /// Where it was passed on, as an index into the locations.
     pub(crate) location: Option<usize>,
     /// The entries with stamps up to this were recorded before.
@@ -184,7 +188,11 @@ fn push_test(out: &mut String, test: &TestId) {
     if test.nth > 0 {
         let _ = write!(out, ", \"nth\": {}", test.nth);
     }
-    out.push('}');
+    out.push_str(if test.patched {
+        ", \"patched\": true}"
+    } else {
+        "}"
+    });
 }
 
 fn push_panic(out: &mut String, panic: &Panic) {
@@ -205,7 +213,13 @@ fn push_panic(out: &mut String, panic: &Panic) {
 }
 
 fn push_returned(out: &mut String, returned: &Returned) {
-    out.push_str("{\"location\": ");
+    out.push('{');
+    if !returned.text.is_empty() {
+        out.push_str("\"text\": ");
+        push_string(out, &returned.text);
+        out.push_str(", ");
+    }
+    out.push_str("\"location\": ");
     push_optional(out, &returned.location);
     let _ = write!(out, ", \"since\": {}}}", returned.since);
 }
@@ -258,6 +272,7 @@ fn test(value: Json) -> Result<TestId, String> {
         name: text_of(next("name"))?,
         thread: text_of(next("thread"))?,
         nth: optional_index(next("nth"))?.unwrap_or(0) as u64,
+        patched: next("patched") == Json::Bool(true),
     })
 }
 
@@ -276,6 +291,7 @@ fn panic(value: Json) -> Result<Panic, String> {
 fn returned(value: Json) -> Result<Returned, String> {
     let mut next = members(value)?;
     Ok(Returned {
+        text: optional_text(next("text"))?.unwrap_or_default(),
         location: optional_index(next("location"))?,
         since: number(next("since"))?,
     })
@@ -314,6 +330,7 @@ mod tests {
                     name: "it ends".into(),
                     thread: "tests::it_ends".into(),
                     nth: 2,
+                    patched: true,
                 }),
                 panics: vec![
                     Panic {
@@ -336,6 +353,7 @@ mod tests {
                 ended_by: Some(1),
                 hangs: true,
                 returned: Some(Returned {
+                    text: "Lost(3)".into(),
                     location: None,
                     since: 8,
                 }),
@@ -357,11 +375,11 @@ mod tests {
     #[test]
     fn each_member_is_on_a_line_of_its_own() {
         let wanted = r#"
-  "test": {"package": "shop", "target": "bus", "name": "it ends", "thread": "tests::it_ends", "nth": 2},
+  "test": {"package": "shop", "target": "bus", "name": "it ends", "thread": "tests::it_ends", "nth": 2, "patched": true},
   "panics": [{"text": "a \"b\"", "location": 2, "actor": 1, "who": "clerk", "task": 17, "since": 7}, {"text": "", "location": null, "actor": null, "since": 9}],
   "ended_by": 1,
   "hangs": true,
-  "returned": {"location": null, "since": 8},
+  "returned": {"text": "Lost(3)", "location": null, "since": 8},
   "unrecorded": {"channels": 2, "left": 1, "calls": true, "handles": 0, "locked": 3},
   "root": "/home/me/shop",
   "sources": {"tests/bus.rs": "0000000000000001"},

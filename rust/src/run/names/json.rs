@@ -9,8 +9,11 @@ use std::str::Chars;
 const DEEPEST: usize = 32;
 
 /// A JSON value.
+///
+/// No part of what this crate promises: it is for the command `cargo yovanelum`.
+#[doc(hidden)]
 #[derive(Clone, Debug, PartialEq)]
-pub(crate) enum Json {
+pub enum Json {
     Null,
     Bool(bool),
     /// A number, as it is written.
@@ -22,6 +25,41 @@ pub(crate) enum Json {
 }
 
 impl Json {
+    /// Returns the member of an object with this key.
+    pub fn get(&self, key: &str) -> Option<&Json> {
+        let Json::Object(members) = self else {
+            return None;
+        };
+        let mut members = members.iter();
+        members
+            .find(|(name, _)| name == key)
+            .map(|(_, value)| value)
+    }
+
+    /// Returns the text that this is.
+    pub fn as_text(&self) -> Option<&str> {
+        match self {
+            Json::Text(text) => Some(text),
+            _ => None,
+        }
+    }
+
+    /// Returns the values of a list, or none if this isn't one.
+    pub fn items(&self) -> &[Json] {
+        match self {
+            Json::List(items) => items,
+            _ => &[],
+        }
+    }
+
+    /// Returns the members of an object, or none if this isn't one.
+    pub fn members(&self) -> &[(String, Json)] {
+        match self {
+            Json::Object(members) => members,
+            _ => &[],
+        }
+    }
+
     pub(crate) fn text(text: &str) -> Json {
         Json::Text(text.to_string())
     }
@@ -68,7 +106,10 @@ fn push_members(out: &mut String, members: &[(String, Json)]) {
 /// # Errors
 ///
 /// Returns what is wrong with it, with the line.
-pub(super) fn read(text: &str) -> Result<Json, String> {
+///
+/// No part of what this crate promises: it is for the command `cargo yovanelum`.
+#[doc(hidden)]
+pub fn read(text: &str) -> Result<Json, String> {
     let mut reader = JsonReader {
         chars: text.chars().peekable(),
         line: 1,

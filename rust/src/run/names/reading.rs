@@ -2,7 +2,7 @@
 //! out.
 
 use super::json::{self, Json};
-use super::{HeldBy, Names, SourceLocation, VERSION_OF_WINDOW, WaitingCall, window};
+use super::{HeldBy, Names, SourceLocation, VERSION_OF_TASKS, WaitingCall, tasks_seen, window};
 use std::collections::BTreeMap;
 
 impl Names {
@@ -49,11 +49,13 @@ impl Names {
             "calls" => by_number(value, optional_indexes).map(|calls| self.calls = calls),
             "tasks" => indexes(value).map(|tasks| self.tasks = tasks),
             "waiting" => list(value, waiting).map(|waiting| self.waiting = waiting),
+            "waited_at_failure" => list(value, waiting).map(|waits| self.waited_at_failure = waits),
             "dropped_waits" => list(value, waiting).map(|waits| self.dropped_waits = waits),
             "dropped_at" => by_number(value, indexes).map(|drops| self.dropped_at = drops),
             "dropped_in" => by_number(value, texts).map(|drops| self.dropped_in = drops),
             "window" => window::window(value).map(|window| self.window = Some(window)),
             "times" => window::times(value).map(|times| self.times = times),
+            "tasks_seen" => tasks_seen::read(value).map(|seen| self.tasks_seen = Some(seen)),
             other => self.matching.read(other, value),
         }
     }
@@ -81,9 +83,9 @@ fn of_key(key: &str, fault: String) -> String {
 /// Refuses a version that may mean something else by the same keys.
 fn version(value: Json) -> Result<(), String> {
     let version: u64 = number(value)?;
-    if version > VERSION_OF_WINDOW {
+    if version > VERSION_OF_TASKS {
         Err(format!(
-            "{version} is later than {VERSION_OF_WINDOW}, the last one that this program reads"
+            "{version} is later than {VERSION_OF_TASKS}, the last one that this program reads"
         ))
     } else {
         Ok(())

@@ -255,11 +255,11 @@ mod tests {
     #[test]
     fn what_is_written_is_read() {
         let json = written_and_read(example());
-        let later = json.replace("\"version\": 4", "\"version\": 5");
+        let later = json.replace("\"version\": 4", "\"version\": 6");
         let refused = Names::read(&later).unwrap_err();
         assert_eq!(
             refused,
-            "its `version`: 5 is later than 4, the last one that this program reads"
+            "its `version`: 6 is later than 5, the last one that this program reads"
         );
         let short = json.replace(", 17000250]", "]");
         let refused = Names::read(&short).unwrap_err();

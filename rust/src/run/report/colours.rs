@@ -1,7 +1,10 @@
 //! The colours of the report.
 
+use crate::run::account::Level;
+
 const BOLD: &str = "\x1b[1m";
 const RED: &str = "\x1b[31m";
+const GREEN: &str = "\x1b[32m";
 const YELLOW: &str = "\x1b[33m";
 const CYAN: &str = "\x1b[36m";
 const PLAIN: &str = "\x1b[0m";
@@ -22,9 +25,13 @@ impl Colours {
     }
 
     /// The level of a fact with its colon, as rustc colours it.
-    pub(super) fn level(self, level: &str) -> String {
-        let colour = if level == "error" { RED } else { YELLOW };
-        self.within(&format!("{BOLD}{colour}"), &format!("{level}:"))
+    pub(super) fn level(self, level: Level) -> String {
+        let colour = match level {
+            Level::Error => RED,
+            Level::Warning => YELLOW,
+            Level::Note => GREEN,
+        };
+        self.within(&format!("{BOLD}{colour}"), &format!("{}:", level.word()))
     }
 
     pub(super) fn head(self, head: &str) -> String {
@@ -51,12 +58,17 @@ mod tests {
     #[test]
     fn colours_are_around_levels_headlines_and_labels() {
         let colours = Colours { has_colours: true };
-        assert_eq!(colours.level("error"), "\x1b[1m\x1b[31merror:\x1b[0m");
-        assert_eq!(colours.level("warning"), "\x1b[1m\x1b[33mwarning:\x1b[0m");
+        for (level, text) in [
+            (Level::Error, "\x1b[1m\x1b[31merror:\x1b[0m"),
+            (Level::Warning, "\x1b[1m\x1b[33mwarning:\x1b[0m"),
+            (Level::Note, "\x1b[1m\x1b[32mnote:\x1b[0m"),
+        ] {
+            assert_eq!(colours.level(level), text);
+        }
         assert_eq!(colours.head("a"), "\x1b[1ma\x1b[0m");
         assert_eq!(colours.lost("lost:"), "\x1b[31mlost:\x1b[0m");
         let plain = Colours { has_colours: false };
-        assert_eq!(plain.level("error"), "error:");
+        assert_eq!(plain.level(Level::Error), "error:");
         assert_eq!(plain.look("look:"), "look:");
     }
 }

@@ -5,7 +5,6 @@
 use crate::run::account::{Account, Fact, FactStep, Failed, WaitAtEnd};
 use crate::run::names::{Json, SourceLocation};
 use std::env;
-use std::iter;
 use std::path::Path;
 
 /// Where the schema of the format is.
@@ -22,7 +21,7 @@ const FAILURE: &str = "failure";
 const WAITING: &str = "waiting";
 
 /// The rules by the kinds of facts, with what each says.
-const RULES: [(&str, &str); 12] = [
+const RULES: [(&str, &str); 13] = [
     (FAILURE, "A test failed."),
     (WAITING, "A call on a channel waits."),
     (
@@ -37,6 +36,7 @@ const RULES: [(&str, &str); 12] = [
     ),
     ("empty", "A receive found nothing."),
     ("value", "A receive returned this value."),
+    ("asked", "A call was answered so."),
     ("unreached", "A send reached nobody."),
     (
         "unlearned",
@@ -84,13 +84,6 @@ pub(crate) fn sarif(account: &Account) -> String {
     out
 }
 
-/// The facts with their levels.
-fn with_levels(account: &Account) -> impl Iterator<Item = (&Fact, &'static str)> {
-    let levels = iter::once("error").chain(iter::repeat("warning"));
-    let facts = account.facts.iter().zip(levels);
-    facts.map(|(fact, level)| (fact, if fact.is_usual() { "warning" } else { level }))
-}
-
 /// Returns the first place of a fact in the sources, or else that of the failure.
 fn place_of<'a>(account: &'a Account, fact: &'a Fact) -> Option<&'a SourceLocation> {
     let first = fact.sights().next().map(|(_, location)| location);
@@ -111,8 +104,9 @@ fn invocation(account: &Account) -> Option<(&'static str, Json)> {
     let window = window.map(|window| notification("note", &window.text));
     let unknown = account.unknown.iter();
     let unknown = unknown.map(|line| notification("warning", &format!("not all is known: {line}")));
-    let facts = with_levels(account).filter(|(fact, _)| place_of(account, fact).is_none());
-    let facts = facts.map(|(fact, level)| notification(level, &fact.text().join("\n")));
+    let facts = account.with_levels();
+    let facts = facts.filter(|(_, fact)| place_of(account, fact).is_none());
+    let facts = facts.map(|(level, fact)| notification(level.word(), &fact.text().join("\n")));
     let failed = account.failed.iter().filter(|it| it.location().is_none());
     let failed = failed.map(|failed| notification("error", &failed.text));
     let waits = account.waiting.iter().filter(|it| it.location().is_none());
@@ -169,8 +163,8 @@ impl Places {
     /// The failure, the facts, and the calls that wait, of which a place is known.
     fn results(&self, account: &Account) -> Vec<Json> {
         let failed = account.failed.iter().filter_map(|it| self.failure(it));
-        let facts = with_levels(account);
-        let facts = facts.filter_map(|(fact, level)| self.fact(account, fact, level));
+        let facts = account.with_levels();
+        let facts = facts.filter_map(|(level, fact)| self.fact(account, fact, level.word()));
         let waits = account.waiting.iter().filter_map(|it| self.wait(it));
         failed.chain(facts).chain(waits).collect()
     }

@@ -242,7 +242,7 @@ warning: receiver 98 lost 97 of 98 values of channel 0 (capacity 1)
   call 392   told: lagged 97            actor 0  its last receive: none before
   lost: value 0, value 1, value 2, .. value 96
 and 96 more receivers lost 4656 values
-still waiting: actor 7 in `channel 0: closed` since the start; actor 8 in `channel 0: recv` since call 2, a.rs:3; actor 9 in `channel 0: recv` since call 399; and 1 more
+still waiting: actor 7 in `channel 0: closed` since the start; actor 8 in `channel 0: recv` since call 2, a.rs:3, which hasn't run since a value came (call 100); actor 9 in `channel 0: recv` since call 399; and 1 more
 look: at call 103
 ";
     let names = r#"{"locations": [["a.rs", 3, 1]], "waiting": [

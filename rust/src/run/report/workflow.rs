@@ -1,6 +1,6 @@
 //! Commands for GitHub's workflows, which show a fact beside the line of its source.
 
-use crate::run::account::Fact;
+use crate::run::account::{Fact, Level};
 use std::env;
 use std::fmt::Write;
 use std::path::{MAIN_SEPARATOR, Path};
@@ -22,8 +22,12 @@ impl Workflow {
 
     /// Returns the command that shows a fact beside its first place in the sources, as a line.
     /// Paths are relative to `root`, if that is known.
-    pub(super) fn command(&self, level: &str, fact: &Fact, root: Option<&str>) -> String {
-        let mut command = format!("::{level} ");
+    pub(super) fn command(&self, level: Level, fact: &Fact, root: Option<&str>) -> String {
+        let word = match level {
+            Level::Note => "notice",
+            level => level.word(),
+        };
+        let mut command = format!("::{word} ");
         if let Some((_, location)) = fact.sights().next() {
             let file = property(&self.in_repository(&location.file, root));
             let (line, column) = (location.line, location.column);

@@ -191,9 +191,11 @@ pub(super) fn replayed(plan: &Plan, state: &GateState) -> Replayed {
     }
 }
 
-/// Returns the panics that the names have.
+/// Returns the panics that the names have, up to the one that ended the test. Those after it are of
+/// the unwinding.
 fn failures(names: &Names) -> Vec<PanicBefore> {
-    let panics = names.ending.panics.iter();
+    let count = names.ending.ended_by.map_or(usize::MAX, |index| index + 1);
+    let panics = names.ending.panics.iter().take(count);
     let failure = |panic: &Panic| {
         let location = panic
             .location

@@ -98,13 +98,12 @@ fn on_a_multi_thread_runtime() {
     }
     let path = std::env::temp_dir().join(format!("yovanelum-tokio-{}.journal", std::process::id()));
     recorder.save(&path).unwrap();
-    if let Some(ttd) = std::env::var_os("YOVANELUM_TTD") {
-        let judged = Command::new(ttd).arg("check").arg(&path).output().unwrap();
-        assert_eq!(
-            String::from_utf8_lossy(&judged.stdout),
-            format!("ok {}\n", recorder.len())
-        );
-    }
+    let ttd = std::env::var_os("YOVANELUM_TTD").expect("set YOVANELUM_TTD to the program ttd");
+    let judged = Command::new(ttd).arg("check").arg(&path).output().unwrap();
+    assert_eq!(
+        String::from_utf8_lossy(&judged.stdout),
+        format!("ok {}\n", recorder.len())
+    );
     assert!(recorder.len() > EVENTS);
     std::fs::remove_file(&path).unwrap();
     std::fs::remove_file(path.with_extension("names")).unwrap();

@@ -3,6 +3,7 @@
 //! The sources name what they need of it by these traits, as in Rattle.
 
 use super::alloc::Global;
+use super::standard_streams;
 use super::sync::Wait;
 use super::thread::Threads;
 use std::io::{self, Read, Write};
@@ -65,10 +66,10 @@ impl Input for HostRuntime {
 }
 
 impl Print for HostRuntime {
-    type Writer = io::Stdout;
+    type Writer = StandardOutput;
 
-    fn writer(&self) -> io::Stdout {
-        io::stdout()
+    fn writer(&self) -> StandardOutput {
+        StandardOutput
     }
 }
 
@@ -85,9 +86,26 @@ impl Read for StandardInput {
     ///
     /// A read of no bytes waits for nothing. Rust's own would fill its buffer first.
     fn read(&mut self, bytes: &mut [u8]) -> io::Result<usize> {
+        standard_streams::check_input()?;
         if bytes.is_empty() {
-            return Ok(0);
+            return standard_streams::check_is_no_folder().map(|()| 0);
         }
         io::stdin().lock().read(bytes)
+    }
+}
+
+/// Standard output.
+#[derive(Clone, Copy, Debug)]
+pub struct StandardOutput;
+
+impl Write for StandardOutput {
+    /// Rattle's clause: `Ok(n)` adds the first `n` bytes to the contents, and an error adds none.
+    fn write(&mut self, bytes: &[u8]) -> io::Result<usize> {
+        standard_streams::check_output()?;
+        io::stdout().write(bytes)
+    }
+
+    fn flush(&mut self) -> io::Result<()> {
+        io::stdout().flush()
     }
 }

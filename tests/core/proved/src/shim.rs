@@ -46,7 +46,7 @@ pub mod sync;
 #[path = "../../../../rust/ttd/src/shim/thread.rs"]
 pub mod thread;
 
-use crate::large_pages;
+use crate::{large_pages, standard_streams};
 
 pub use boxed::Box;
 pub use casts::saturated;

@@ -34,6 +34,8 @@ pub mod rw_script;
 pub mod rw_seat;
 #[path = "../../../../rust/src/core/source/rw_text/mod.rs"]
 pub mod rw_text;
+#[path = "../../../../rust/src/core/source/rw_values/mod.rs"]
+pub mod rw_values;
 #[path = "../../../../rust/src/core/source/rw_watch/mod.rs"]
 pub mod rw_watch;
 #[path = "../../../../rust/src/core/source/rw_words/mod.rs"]

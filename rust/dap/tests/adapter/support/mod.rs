@@ -104,6 +104,8 @@ pub struct Client {
     answers: Receiver<Vec<u8>>,
     bytes: Vec<u8>,
     count: u64,
+    // The number of the last message of the adapter.
+    received: u64,
     served: Option<JoinHandle<bool>>,
     /// The events that have come since they were taken last.
     pub events: Vec<Value>,
@@ -123,6 +125,7 @@ impl Client {
             answers,
             bytes: vec![],
             count: 0,
+            received: 0,
             served: Some(served),
             events: vec![],
         }
@@ -141,11 +144,13 @@ impl Client {
         self.send_bytes(format!("Content-Length: {}\r\n\r\n{text}", text.len()).as_bytes());
     }
 
-    /// Returns the next message of the adapter.
+    /// Returns the next message of the adapter, whose messages have numbers one after the other.
     pub fn next(&mut self) -> Value {
         loop {
             if let Some((message, length)) = first_message(&self.bytes) {
                 self.bytes.drain(..length);
+                self.received += 1;
+                assert_eq!(message["seq"], self.received, "{message}");
                 return message;
             }
             self.bytes

@@ -196,11 +196,12 @@ impl DumpRequest {
     }
 }
 
-/// Counts a dump, and says why it isn't written.
+/// Counts a dump, and says where it is written, or why it isn't.
 fn count(recorder: &Shared, written: io::Result<PathBuf>) -> io::Result<PathBuf> {
     match (&recorder.flight, written) {
         (Some(flight), Ok(path)) => {
             flight.dumping.count_written();
+            eprintln!("yovanelum: a dump is written: {}", path.display());
             Ok(path)
         }
         (Some(flight), Err(error)) => flight.dumping.fail(error),

@@ -217,12 +217,16 @@ fn a_drop_that_has_no_place_is_told_by_that_of_its_callers_last_call() {
     let gate = gate_of(JOURNAL, NAMES, Duration::from_millis(5));
     let (_, waker, _woken) = told();
     let mut ticket = None;
-    let recv = Coming {
-        called_at: Some(location),
-        ..call(STRANGER, 0, Word::Recv, 7)
-    };
-    assert!(!poll(&gate, recv, &mut ticket, &waker));
-    gate.leave(ticket.take().unwrap());
+    // Its first call is elsewhere.
+    let first = std::panic::Location::caller();
+    for called_at in [first, location] {
+        let recv = Coming {
+            called_at: Some(called_at),
+            ..call(STRANGER, 0, Word::Recv, 7)
+        };
+        assert!(!poll(&gate, recv, &mut ticket, &waker));
+        gate.leave(ticket.take().unwrap());
+    }
     make(&gate, call(STRANGER, 0, Word::Drop, 7));
     let wanted = format!(
         "while `drop 7` on `orders` by a caller that the journal doesn't have, whose last call was at {at} waited{NAME_TASKS}"

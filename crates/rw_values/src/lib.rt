@@ -1,0 +1,18 @@
+//! The values of a channel, of any type: what is received is what was sent, and each value leaves the store once.
+//!
+//! The one contract: a broadcast whose core knows numbers alone, with this store of the values beside it, gives each receiver the
+//! value that the documented broadcast of those values replies with (`specs/Named.antt`, `specs/Following.antt`). A value is given
+//! back when its last receiver has it or is gone, or when it is overwritten: at each call exactly what is no longer wanted.
+//! A watch needs no store. Where its core knows numbers alone, it replies with the number of the value that the documented watch
+//! of those values replies with (`specs/NamedWatch.antt`).
+//! Start reading at `specs/Stored.antt`, what a store has and what each call of it leaves. Then read `values.rt`. The laws are in
+//! `laws.rt`.
+//! What stands on it: the Rust crate (`rust/`).
+#![tactic(auto)]
+
+mod laws;
+mod ring;
+mod values;
+
+pub use laws::{by_number, counts, follows, gives_once, watch_by_number};
+pub use values::{Kept, Values};

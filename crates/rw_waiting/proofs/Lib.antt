@@ -1,0 +1,5 @@
+pub mod Counting
+pub mod Receiving
+pub mod Watching
+pub mod Acting
+pub mod Stepping

@@ -1,0 +1,7 @@
+pub mod Told
+pub mod Queue
+pub mod Waitable
+pub mod Listed
+pub mod Steps
+pub mod Broadcasts
+pub mod Watches

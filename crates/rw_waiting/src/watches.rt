@@ -1,0 +1,53 @@
+//! A watch and those who wait for it.
+ghost use Rattle.std.specs.Prelude.{◌≡◌, ◌<◌};
+ghost use Rattle.rw_watch.specs.Shown.{IsAllowed, next, patch_of, reply_of, weight};
+ghost use Rattle.rw_waiting.specs.Watches.{told_after, told_by};
+ghost use Rattle.rw_handles.specs.Slots.{alive};
+ghost use Rattle.rw_waiting.specs.Listed.{after_told, woken};
+ghost use Rattle.rw_waiting.specs.Told.{told_by_drop};
+
+use crate::notices::{Notice, WaitFor, told};
+use crate::queue::Entry;
+use crate::waiting::Waiting;
+use rw_handles::Kind;
+use rw_law::Reversible;
+use rw_watch::{WCall, WPatch, WReply, Watch};
+use std::alloc::Global;
+
+/// Returns what the last call on a watch told those who wait, given its patch.
+pub fn told_on_watch<V: Copy>(channel: &Watch<V>, patch: &WPatch<V>) -> Option<WaitFor>
+    ensures { result ≡ told_after channel.now.shown patch.now }
+{
+    match *patch {
+        WPatch::Wrote { told: true, .. } => told(Notice::Sent),
+        WPatch::Left(kind, _) => told_by_drop(channel, kind),
+        WPatch::LeftUnmarked(kind) => told_by_drop(channel, kind),
+        _ => None,
+    }
+}
+
+/// Returns what the drop of a handle of this kind has told those who wait.
+fn told_by_drop<V: Copy>(channel: &Watch<V>, kind: Kind) -> Option<WaitFor>
+    ensures { result ≡ told_by_drop kind (alive kind channel.now.shown.slots) }
+{
+    told(Notice::Dropped(kind, channel.alive(kind)))
+}
+
+/// Makes a call on a watch, and takes those off the list whom it tells. Returns its reply, and what wakes them.
+pub fn call_watch<V: Copy, W: Drop>(
+    alloc: Global,
+    channel: &mut Watch<V>,
+    waiting: &mut Waiting<W>,
+    call: &WCall<V>,
+) -> (WReply<V>, Vec<Entry<W>>)
+    requires room { weight channel.old.shown < channel.old.limit }
+    requires allowed { IsAllowed channel.old.shown }
+    ensures shown { channel.new.shown ≡ next channel.old.shown call.now }
+    ensures reply { result.0 ≡ reply_of channel.old.shown call.now }
+    ensures woken { result.1.items ≡ woken waiting.old (told_by channel.old.shown call.now) }
+    ensures left { waiting.new ≡ after_told waiting.old (told_by channel.old.shown call.now) }
+{
+    let (reply, patch) = channel.apply(call);
+    let told = told_on_watch(channel, &patch);
+    (reply, waiting.woken(alloc, told))
+}

@@ -1,0 +1,161 @@
+//! Where a continue stops, what it prints on the way, and what of an earlier stop is answered
+//! there.
+
+use crate::support::{Client, Folder, Lines, save_bus, this_file};
+use serde_json::{Value, json};
+
+/// The threads of the bus: the ticker makes the first call.
+const TICKER: u64 = 1;
+const AUDITOR: u64 = 2;
+
+/// Launches the bus, whose calls 1 to 3 are sends, 4 and 9 drops, and 5 to 8 receives, of which the
+/// first is told that it lagged.
+fn launched(stop_at: &str) -> (Folder, Client, Lines) {
+    let folder = Folder::new();
+    let (journal, lines) = save_bus(&folder, "bus");
+    let mut client = Client::new(false);
+    client.launch(json!({"journal": journal, "stopAt": stop_at}));
+    (folder, client, lines)
+}
+
+/// Sets the breakpoints of the bus's sources, and returns their numbers.
+fn set(client: &mut Client, breakpoints: Value) -> Vec<u64> {
+    let source = json!({"path": this_file()});
+    let given = json!({"source": source, "breakpoints": breakpoints});
+    numbers(&client.ask("setBreakpoints", given))
+}
+
+fn numbers(answer: &Value) -> Vec<u64> {
+    let all = answer["breakpoints"].as_array().unwrap().iter();
+    let verified = all.inspect(|it| assert_eq!(it["verified"], true, "{it}"));
+    verified.map(|it| it["id"].as_u64().unwrap()).collect()
+}
+
+/// Makes a move, and returns what it printed.
+fn printed(client: &mut Client, command: &str) -> String {
+    client.ask(command, json!({"threadId": TICKER}));
+    let mut lines = String::new();
+    loop {
+        let event = client.next();
+        match event["event"].as_str() {
+            Some("output") => lines += event["body"]["output"].as_str().unwrap(),
+            Some("stopped") => return lines,
+            _ => panic!("{event}"),
+        }
+    }
+}
+
+#[test]
+fn log_points_print_up_to_the_stop_and_no_further() {
+    let (_folder, mut client, lines) = launched("start");
+    set(
+        &mut client,
+        json!([
+            {"line": lines.send, "logMessage": "{number}"},
+            {"line": lines.send, "condition": "number == 2"},
+        ]),
+    );
+    assert_eq!(printed(&mut client, "continue"), "1\n2\n");
+    assert_eq!(client.console("number"), "2");
+    assert_eq!(printed(&mut client, "continue"), "3\n");
+    assert_eq!(client.console("number"), "9");
+    assert_eq!(printed(&mut client, "reverseContinue"), "3\n2\n");
+    assert_eq!(client.console("number"), "2");
+    assert_eq!(printed(&mut client, "reverseContinue"), "1\n");
+    assert_eq!(client.console("number"), "0");
+}
+
+#[test]
+fn a_single_thread_passes_what_others_hit() {
+    let (_folder, mut client, _lines) = launched("start");
+    let drops = json!({"breakpoints": [{"name": "drop"}]});
+    client.ask("setFunctionBreakpoints", drops);
+    let single = |thread: u64| json!({"threadId": thread, "singleThread": true});
+    // The ticker drops its sender in call 4, and the auditor its receiver in call 9.
+    let stop = client.go("continue", single(AUDITOR));
+    assert_eq!(
+        (&stop["reason"], &stop["threadId"]),
+        (&"function breakpoint".into(), &AUDITOR.into())
+    );
+    assert_eq!(client.console("number"), "9");
+    let data = json!({"breakpoints": [{"dataId": "lagging 0 1"}]});
+    client.ask("setDataBreakpoints", data);
+    client.go("reverseContinue", single(TICKER));
+    assert_eq!(client.console("number"), "4");
+    // No hit of the auditor's is there, so it goes to the start.
+    let stop = client.go("reverseContinue", single(AUDITOR));
+    assert_eq!(stop["text"], "the start of the run");
+    client.go("continue", json!({"threadId": AUDITOR}));
+    assert_eq!(client.console("number"), "3");
+}
+
+#[test]
+fn frames_and_variables_are_of_one_stop() {
+    let (_folder, mut client, _lines) = launched("cause");
+    let frame = client.frames(TICKER)[0]["id"].clone();
+    let scopes = client.ask("scopes", json!({"frameId": frame}));
+    let group = scopes["scopes"][1]["variablesReference"].clone();
+    client.ask("variables", json!({"variablesReference": group}));
+    client.go("next", json!({"threadId": TICKER}));
+    let refused = |client: &mut Client| {
+        for (command, given, said) in [
+            (
+                "variables",
+                json!({"variablesReference": group}),
+                "there are no such variables at this stop",
+            ),
+            (
+                "scopes",
+                json!({"frameId": frame}),
+                "there is no such frame at this stop",
+            ),
+            (
+                "evaluate",
+                json!({"expression": "auditor.lag", "frameId": frame}),
+                "there is no such frame at this stop",
+            ),
+        ] {
+            assert_eq!(client.refusal(command, given), said);
+        }
+    };
+    refused(&mut client);
+    // What is shown now has other numbers.
+    let frame_now = client.frames(TICKER)[0]["id"].clone();
+    client.ask("scopes", json!({"frameId": frame_now}));
+    refused(&mut client);
+}
+
+#[test]
+fn what_goes_wrong_at_a_breakpoint_is_told_as_an_exception() {
+    let (_folder, mut client, lines) = launched("start");
+    let line = set(&mut client, json!([{"line": lines.recv}]));
+    let filters = json!({"filters": ["lagged"]});
+    let filter = numbers(&client.ask("setExceptionBreakpoints", filters));
+    let stop = client.go("continue", json!({"threadId": TICKER}));
+    assert_eq!(client.console("number"), "5");
+    assert_eq!(stop["reason"], "exception");
+    let head = "`auditor` lost 1 of 3 values of `prices` (capacity 2)";
+    assert_eq!(stop["description"], head);
+    let mut hit: Vec<u64> = serde_json::from_value(stop["hitBreakpointIds"].clone()).unwrap();
+    hit.sort_unstable();
+    let mut wanted = [line, filter].concat();
+    wanted.sort_unstable();
+    assert_eq!(hit, wanted);
+    // So is the send that overwrote a value, though data are watched there.
+    let data = json!({"breakpoints": [{"dataId": "lagging 0 1"}]});
+    client.ask("setDataBreakpoints", data);
+    client.ask("setExceptionBreakpoints", json!({"filters": ["lost"]}));
+    let stop = client.go("reverseContinue", json!({"threadId": TICKER}));
+    assert_eq!(client.console("number"), "3");
+    assert_eq!(
+        (&stop["reason"], &stop["description"]),
+        (&"exception".into(), &head.into())
+    );
+    client.go("next", json!({"threadId": AUDITOR}));
+    // The next receive of the breakpoint's line goes well.
+    let stop = client.go("continue", json!({"threadId": TICKER}));
+    assert_eq!(
+        (&stop["reason"], &stop["text"]),
+        (&"breakpoint".into(), &Value::Null)
+    );
+}

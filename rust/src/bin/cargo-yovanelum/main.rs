@@ -1,0 +1,289 @@
+//! The command `cargo yovanelum`: runs the tests of a package as they are, with recorded channels
+//! in the place of tokio's, and finds the reports of those that failed.
+
+mod journals;
+mod lacking;
+mod lock;
+#[path = "../../harness/facade/manifest.rs"]
+mod manifest;
+mod run;
+mod signals;
+mod stand_in;
+mod words;
+mod workspace;
+
+use journals::FoundJournal;
+use run::CommandRun;
+use std::env;
+use std::ffi::OsString;
+use std::fs;
+use std::io::{self, Write};
+use std::path::PathBuf;
+use std::process::ExitCode;
+use std::time::SystemTime;
+use words::Words;
+use workspace::{CommandFailed, Workspace};
+
+/// The page, so that the installed command needs no other file.
+const PAGE: &[u8] = include_bytes!("../../../built/yovanelum.html");
+
+const USAGE: &str = "\
+CommandRun the tests of a package with tokio's broadcast and watch channels recorded
+
+Usage: cargo yovanelum <COMMAND>
+
+Commands:
+  test [WORDS]        CommandRun `cargo test` with these words. A failing test says what its channels did
+  nextest [WORDS]     The same with `cargo nextest`, such as `nextest run`
+  run [WORDS]         The same with `cargo run`
+  replay <TEST>       Make the calls of its last failing run again, in their order
+  explore <TEST>      CommandRun it by many orders until one fails
+  list                List the tests that failed, the last one first
+  why [TEST]          Print the report of a test, or the last one
+  open [TEST]         Write the page that draws its run, and print where
+  clean               Remove the reports, and what the command has written beside
+
+Options:
+      --report-after <SECONDS>  Report a test that hasn't ended after this time [default: 60]
+      --runs <RUNS>             How many orders `explore` tries [default: 1000]
+  -h, --help                    Print help
+  -V, --version                 Print version
+
+A TEST is given by its path, or the end of it. Words after a TEST are those of `cargo test`.
+";
+
+fn main() -> ExitCode {
+    let words = env::args_os().skip(1).map(OsString::into_string).collect();
+    let words: Result<Vec<String>, OsString> = words;
+    let done = match words {
+        Ok(words) => begin(words),
+        Err(word) => Err(usage(format!("`{}` is no text", word.to_string_lossy()))),
+    };
+    match done {
+        Ok(status) => ExitCode::from(status),
+        Err(CommandFailed { line, status }) => {
+            if let Some(line) = line {
+                eprintln!("error: {line}");
+            }
+            ExitCode::from(status)
+        }
+    }
+}
+
+/// Runs the command with the words after its name.
+fn begin(mut words: Vec<String>) -> Result<u8, CommandFailed> {
+    // Cargo repeats the name of a command of its own.
+    if words.first().is_some_and(|word| word == "yovanelum") {
+        words.remove(0);
+    }
+    let Some((verb, words)) = words.split_first() else {
+        return print(USAGE);
+    };
+    match verb.as_str() {
+        "-h" | "--help" | "help" => print(USAGE),
+        "-V" | "--version" => print(concat!("cargo-yovanelum ", env!("CARGO_PKG_VERSION"), "\n")),
+        "test" | "t" => test(&["test"], words),
+        "run" | "r" => test(&["run"], words),
+        "nextest" => match words.split_first() {
+            Some((verb, words)) => test(&["nextest", verb], words),
+            None => Err(usage(
+                "`nextest` needs its command, such as `run`".to_string(),
+            )),
+        },
+        "replay" => replay(words),
+        "explore" => explore(words),
+        "list" => list(&Words::of(words)),
+        "why" | "open" => of_journal(verb, words),
+        "clean" => clean(&Words::of(words)),
+        _ => Err(usage(format!("no such command: `{verb}`"))),
+    }
+}
+
+fn usage(line: String) -> CommandFailed {
+    CommandFailed {
+        line: Some(format!(
+            "{line}\n\nFor more information, try `cargo yovanelum --help`."
+        )),
+        status: 2,
+    }
+}
+
+fn print(text: &str) -> Result<u8, CommandFailed> {
+    let printed = io::stdout().write_all(text.as_bytes());
+    printed.map(|()| 0).map_err(|error| CommandFailed {
+        line: Some(format!("write error: {error}")),
+        status: 4,
+    })
+}
+
+/// The variables that an option of this command sets for the tests.
+fn variables(words: &mut Words) -> Vec<(&'static str, OsString)> {
+    let after = words.take("--report-after");
+    Vec::from_iter(after.map(|seconds| ("YOVANELUM_REPORT_AFTER", seconds.into())))
+}
+
+/// Runs cargo's command with the user's words, and says how many tests have left a report.
+fn test(verb: &[&str], words: &[String]) -> Result<u8, CommandFailed> {
+    let mut words = Words::of(words);
+    let variables = variables(&mut words);
+    let began = SystemTime::now();
+    let run = CommandRun {
+        verb,
+        words,
+        variables,
+    };
+    let (workspace, status) = run.start()?;
+    keep_words(&workspace, &run.words);
+    let reports = journals::all(&workspace);
+    let count = reports
+        .iter()
+        .filter(|journal| journal.written >= began)
+        .count();
+    if count > 0 {
+        let tests = if count == 1 {
+            "1 test has"
+        } else {
+            &format!("{count} tests have")
+        };
+        eprintln!("yovanelum: {tests} left a report: `cargo yovanelum list`");
+    }
+    Ok(status)
+}
+
+/// The words of the last run that chose what was built, for a replay of its tests.
+fn kept_words(workspace: &Workspace) -> PathBuf {
+    workspace.state().join("words")
+}
+
+fn keep_words(workspace: &Workspace, words: &Words) {
+    // Without them, a replay is built as if none had been given.
+    let _ = fs::write(kept_words(workspace), words.of_build().join("\n"));
+}
+
+/// Splits off the test that is named first.
+fn named(words: &[String]) -> Result<(&str, Words), CommandFailed> {
+    match words.split_first() {
+        Some((test, rest)) if !test.starts_with('-') => Ok((test, Words::of(rest))),
+        _ => Err(usage("the name of a test is missing".to_string())),
+    }
+}
+
+/// Makes the calls of the last failing run of a test again.
+fn replay(words: &[String]) -> Result<u8, CommandFailed> {
+    let (test, mut given) = named(words)?;
+    let workspace = Workspace::without_packages(&given)?;
+    let (journal, others) = journals::last(&workspace, Some(test))?;
+    say_others(&journal, &others);
+    let mut variables = variables(&mut given);
+    variables.push(("YOVANELUM_REPLAY", journal.path.clone().into()));
+    run_alone(&workspace, &journal.test, journal.words(), given, variables)
+}
+
+/// Says which of several tests is meant.
+fn say_others(journal: &FoundJournal, others: &[FoundJournal]) {
+    if !others.is_empty() {
+        eprintln!(
+            "yovanelum: {} is meant, the last of {} tests of this name",
+            shown(journal),
+            others.len() + 1
+        );
+    }
+}
+
+fn shown(journal: &FoundJournal) -> String {
+    format!("{} ({})", journal.test, journal.words().join(" "))
+}
+
+/// Runs a test alone, built as in the run before.
+fn run_alone(
+    workspace: &Workspace,
+    test: &str,
+    target: Vec<String>,
+    given: Words,
+    variables: Vec<(&str, OsString)>,
+) -> Result<u8, CommandFailed> {
+    let kept = fs::read_to_string(kept_words(workspace)).unwrap_or_default();
+    let mut words = Words {
+        before: kept.lines().map(str::to_string).collect(),
+        behind: vec!["--".to_string(), test.to_string(), "--exact".to_string()],
+    };
+    words.before.extend(target);
+    words.before.extend(given.before);
+    words.behind.extend(given.behind.into_iter().skip(1));
+    let run = CommandRun {
+        verb: &["test"],
+        words,
+        variables,
+    };
+    run.start().map(|(_, status)| status)
+}
+
+/// Runs a test by many orders.
+fn explore(words: &[String]) -> Result<u8, CommandFailed> {
+    let (test, mut given) = named(words)?;
+    let runs = given.take("--runs").unwrap_or_else(|| "1000".to_string());
+    let workspace = Workspace::without_packages(&given)?;
+    let mut variables = variables(&mut given);
+    variables.push(("YOVANELUM_EXPLORE", runs.into()));
+    match journals::last(&workspace, Some(test)) {
+        Ok((journal, others)) => {
+            say_others(&journal, &others);
+            run_alone(&workspace, &journal.test, journal.words(), given, variables)
+        }
+        // One that has never failed is run wherever there is one of this path.
+        Err(_) => run_alone(&workspace, test, vec![], given, variables),
+    }
+}
+
+/// Lists the tests that have left a report.
+fn list(words: &Words) -> Result<u8, CommandFailed> {
+    let workspace = Workspace::without_packages(words)?;
+    let journals = journals::all(&workspace);
+    let lines = journals
+        .iter()
+        .filter(|journal| !journal.is_replayed())
+        .map(|journal| {
+            let age = journal.written.elapsed().unwrap_or_default().as_secs();
+            format!("{}, {}: {}\n", shown(journal), ago(age), journal.failed)
+        });
+    print(&lines.collect::<String>())
+}
+
+fn ago(seconds: u64) -> String {
+    match seconds {
+        0..60 => format!("{seconds} s ago"),
+        60..3600 => format!("{} min ago", seconds / 60),
+        3600..86400 => format!("{} h ago", seconds / 3600),
+        _ => format!("{} days ago", seconds / 86400),
+    }
+}
+
+/// Prints the report of a test, or writes its page.
+fn of_journal(verb: &str, words: &[String]) -> Result<u8, CommandFailed> {
+    let is_name = |word: &&String| !word.starts_with('-');
+    let test = words.first().filter(is_name);
+    let given = Words::of(&words[usize::from(test.is_some())..]);
+    let workspace = Workspace::without_packages(&given)?;
+    let (journal, others) = journals::last(&workspace, test.map(String::as_str))?;
+    say_others(&journal, &others);
+    let mut all = vec![OsString::from(verb), journal.path.into_os_string()];
+    let forms = ["--json", "--sarif"];
+    let form = given
+        .before
+        .iter()
+        .filter(|word| forms.contains(&word.as_str()));
+    all.extend(form.map(OsString::from));
+    let mut out = io::stdout().lock();
+    Ok(yovanelum::command(all, PAGE, &mut out, &mut io::stderr()))
+}
+
+/// Removes all that this crate has written into the folder of the build.
+fn clean(words: &Words) -> Result<u8, CommandFailed> {
+    let own = Workspace::without_packages(words)?.own();
+    match fs::remove_dir_all(&own) {
+        Err(error) if error.kind() != io::ErrorKind::NotFound => {
+            Err(CommandFailed::new(format!("{}: {error}", own.display())))
+        }
+        _ => Ok(0),
+    }
+}

@@ -1,0 +1,164 @@
+//! The recorder that each test gets by itself under `cargo yovanelum`, if it creates none: named by
+//! the test's path, created at its first channel or task, and told of only where the test fails.
+//!
+//! The package that stands for tokio begins it, and says when the thread of the test blocks on a
+//! future. A panic that leaves that future ends the test, as it ends a recorder that is the first
+//! variable of the future. A test that blocks on none ends at its panic, after the hook of the
+//! harness has printed that. It may be caught: then the test goes on, and its last panic counts.
+
+mod tests_of_program;
+
+use super::exploring::RUNS;
+use super::for_test::SaveOnPanic;
+use super::test_run::TestRun;
+use crate::channels::actors::current_task;
+use crate::channels::recorder::{
+    ForTests, REPLAY, Recorder, TestOfThread, give_to_tests, test_of_this_thread,
+};
+use crate::channels::turns::explored;
+use crate::harness::program::Program;
+use std::any::Any;
+use std::cell::Cell;
+use std::sync::OnceLock;
+use std::time::Duration;
+use std::{env, thread};
+
+/// The variable that the command sets for the tests that it runs.
+const COMMAND: &str = "YOVANELUM_COMMAND";
+
+/// The variable by which the command says after how many seconds a test that hasn't ended is
+/// reported. Without it, that is as many as after which the test harness says so too.
+const REPORT_AFTER: &str = "YOVANELUM_REPORT_AFTER";
+
+/// After how many seconds the test harness says that a test hasn't ended.
+const SECONDS: u64 = 60;
+
+thread_local! {
+    // On how many futures this thread blocks, one within the other.
+    static BLOCKED_ON: Cell<usize> = const { Cell::new(0) };
+}
+
+/// Whether `cargo yovanelum` runs this program.
+pub(super) fn is_under_command() -> bool {
+    static IS_UNDER: OnceLock<bool> = OnceLock::new();
+    *IS_UNDER.get_or_init(|| env::var_os(COMMAND).is_some())
+}
+
+/// What gives the tests of this program their recorders.
+struct OfCommand;
+
+impl ForTests for OfCommand {
+    fn is_test(&self, thread: &str) -> bool {
+        Program::this().target.is_test && tests_of_program::may_report(thread)
+    }
+
+    fn begin(&self, test: &str) -> Option<(Recorder, Box<dyn Any + Send>)> {
+        let recorder = Recorder::of_test(test);
+        let saved = recorder.save_on_panic(test).watchdog(report_after());
+        saved.test.note_automatic();
+        Some((recorder, Box::new(saved)))
+    }
+}
+
+fn report_after() -> Duration {
+    let given = env::var(REPORT_AFTER).ok();
+    let seconds = given.and_then(|seconds| seconds.parse().ok());
+    Duration::from_secs(seconds.unwrap_or(SECONDS))
+}
+
+/// Has tests get recorders by themselves, if `cargo yovanelum` runs this program.
+///
+/// No part of what this crate promises: it is for the package that stands for tokio, which calls it
+/// where a runtime is built or a channel created.
+#[doc(hidden)]
+#[inline]
+pub fn record_tests() {
+    if is_under_command() {
+        begin();
+    }
+}
+
+#[cold]
+fn begin() {
+    give_to_tests(&OfCommand);
+    let test = test_of_this_thread();
+    // The order of a replay, and the one that is explored, begin with the first task.
+    let is_set = |variable: &str| env::var_os(variable).is_some();
+    if let Some(test) = test.filter(|_| is_set(REPLAY) || is_set(RUNS) || explored().is_some()) {
+        test.begin();
+    }
+}
+
+/// While this is alive, the thread blocks on a future. It is the first variable of that future, so
+/// where a panic leaves the future, all others are dropped before.
+///
+/// No part of what this crate promises: it is for the package that stands for tokio.
+#[doc(hidden)]
+#[derive(Debug)]
+pub struct BlockedOn(());
+
+impl BlockedOn {
+    /// Notes that this thread blocks on a future.
+    #[allow(clippy::new_without_default)]
+    pub fn new() -> BlockedOn {
+        let _ = BLOCKED_ON.try_with(|count| count.set(count.get() + 1));
+        BlockedOn(())
+    }
+}
+
+impl Drop for BlockedOn {
+    fn drop(&mut self) {
+        let left = BLOCKED_ON.try_with(|count| {
+            count.set(count.get() - 1);
+            count.get()
+        });
+        if left == Ok(0) && thread::panicking() {
+            end_of_this_thread();
+        }
+    }
+}
+
+/// Ends the test of this thread, which panics. The drop of what is kept reports it.
+#[cold]
+fn end_of_this_thread() {
+    if let Some(test) = test_of_this_thread() {
+        test.thread().end();
+    }
+}
+
+/// Ends the recorder that a test has by itself without a word, since it creates its own.
+pub(super) fn leave_to_test() {
+    if is_under_command() {
+        end_of_this_thread();
+    }
+}
+
+/// Reports the test of this thread, whose panic was printed, unless the thread blocks on a future.
+/// It is called by the panic hook, and what it prints is captured with what the test prints.
+pub(super) fn report_in_hook() {
+    let is_in_future = BLOCKED_ON.try_with(Cell::get).is_ok_and(|count| count > 0);
+    if !is_under_command() || is_in_future || current_task().is_some() {
+        return;
+    }
+    let test = test_of_this_thread();
+    let lines = test.as_ref().and_then(lines_on);
+    if let Some(lines) = lines {
+        eprint!("{lines}");
+    }
+}
+
+/// Writes the files of a test, and returns its report. This thread may have locked what is asked
+/// for.
+fn lines_on(test: &TestOfThread) -> Option<String> {
+    test.thread().with_kept(|kept| {
+        let saved = kept.downcast_ref::<SaveOnPanic>()?;
+        let lines = saved.test.write_before_process_ends()?;
+        saved.test.note_report();
+        Some(lines)
+    })?
+}
+
+/// Returns the line that brings this test back under the command.
+pub(super) fn replay_line(test: &TestRun, quoted: impl Fn(&str) -> String) -> Option<String> {
+    is_under_command().then(|| format!("replay: cargo yovanelum replay {}\n", quoted(&test.name)))
+}

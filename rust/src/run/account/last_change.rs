@@ -1,0 +1,155 @@
+//! What a call had to go by that waits for another value of a watch: the last change, whose value
+//! may be the wrong one, and a later `send_if_modified` that told nobody.
+
+use super::fact::{FactStep, Role};
+use super::silence::last_sent;
+use super::{Context, visible};
+use crate::run::journal::Spec;
+use crate::run::names::WaitingCall;
+use crate::run::reply::Reply;
+use crate::run::word::Word;
+
+/// Returns them as steps, up to a place, of what came while the receiver of a call was there.
+pub(super) fn steps(context: &Context<'_>, call: &WaitingCall, until: u64) -> Vec<FactStep> {
+    let (channel, receiver) = (call.channel as u32, call.handle as u32);
+    let handle = context.history.channel(channel).handle(receiver);
+    let is_reader = handle.is_some_and(|handle| handle.is_receiver);
+    if !is_reader || !matches!(context.run.specs()[channel as usize], Spec::Watch(_)) {
+        return vec![];
+    }
+    let made = handle.map_or(0, |handle| handle.made);
+    let changed = Some(last_sent(context, channel, until)).filter(|place| *place > made);
+    let quiet = told_nobody(context, channel, (changed.unwrap_or(made), until));
+    let changed = changed.map(|place| {
+        let call = context.naming.call(place, &context.run.entry(place));
+        context.step(place, Role::Change, call, "the last change".to_string())
+    });
+    let quiet = quiet.map(|place| {
+        // The journal has the word of `send_modify`, which always tells.
+        let call = context.naming.method(channel, "send_if_modified");
+        let said = "told nobody: its closure returned false".to_string();
+        context.step(place, Role::Change, call, said)
+    });
+    changed.into_iter().chain(quiet).collect()
+}
+
+/// Returns the last `send_if_modified` of a channel between two places whose closure returned
+/// `false`.
+fn told_nobody(context: &Context<'_>, channel: u32, (after, until): (u64, u64)) -> Option<u64> {
+    let after = after.max(context.history.lead);
+    let mut places = (after + 1..=until).rev();
+    places.find(|place| {
+        let entry = context.run.entry(*place);
+        let is_modify = entry.word == Word::Modify && entry.reply == Reply::Told(0);
+        entry.channel == channel && is_modify
+    })
+}
+
+/// Says that a call which waits has something to receive, which came since it began: its task or
+/// thread hasn't run since.
+pub(super) fn came_since(context: &Context<'_>, call: &WaitingCall) -> Option<String> {
+    // A `wait_for` may have looked at it and go on waiting.
+    if call.held_by.is_some() || !["recv", "blocking_recv", "changed"].contains(&call.call.as_str())
+    {
+        return None;
+    }
+    let channel = call.channel as u32;
+    let since = context.place_of(call.since);
+    let end = context
+        .failure
+        .end()
+        .map_or(context.run.len(), |end| end.place);
+    let mut places = since + 1..=end;
+    let came = places.find(|place| {
+        let entry = context.run.entry(*place);
+        let is_sent = matches!(
+            entry.reply,
+            Reply::Sent(_) | Reply::Stored | Reply::Old(_) | Reply::Told(1)
+        );
+        entry.channel == channel && is_sent
+    })?;
+    let location = context.naming.call_source(channel, came);
+    let at = location.map_or(String::new(), |at| format!(", {}", visible::line_of(at)));
+    let what = match context.run.specs()[channel as usize] {
+        Spec::Broadcast(_) => "value",
+        Spec::Watch(_) => "change",
+    };
+    let came = visible::call(came);
+    Some(format!(
+        ", which hasn't run since a {what} came ({came}{at})"
+    ))
+}
+
+#[cfg(test)]
+mod tests {
+    use crate::run::account::tests::{account, assert_told, heads};
+
+    #[test]
+    fn a_wait_has_the_last_change_and_what_told_nobody() {
+        // The value 7 isn't what the reader waits for, and 8 is stored without a word.
+        let entries = [
+            "0 0 send 0 7 = stored",
+            "1 0 update 1 = value 7",
+            "0 0 modify 0 8 no = told no",
+        ];
+        let names = r#"{"values": {"0": {"7": "failed"}}, "hangs": true,
+            "waiting": [{"actor": 1, "channel": 0, "handle": 1, "call": "wait_for", "since": 2, "location": null}]}"#;
+        let found = account(&["watch 0"], &entries, names);
+        let head = "`channel 0: wait_for` of actor 1 waits: channel 0 wasn't changed since call 1";
+        let below = [
+            "  call 1   channel 0: send(\"failed\")     actor 0  the last change",
+            "  call 3   channel 0: send_if_modified   actor 0  told nobody: its closure returned false",
+            "  call 2   channel 0: wait_for           actor 1  waits",
+            "  senders: sender 0 (last used at call 3 by actor 0)",
+        ];
+        assert_told(&found, &[head], 0, &below);
+    }
+
+    #[test]
+    fn of_a_broadcast_and_before_the_receiver_there_is_none() {
+        let wait = |handle: u32| {
+            format!(
+                r#"{{"hangs": true, "waiting": [{{"actor": 1, "channel": 0, "handle": {handle}, "call": "recv", "since": 2, "location": null}}]}}"#
+            )
+        };
+        let entries = ["0 0 send 0 7 = sent 1", "1 0 recv 1 = value 7"];
+        let found = account(&["broadcast 4"], &entries, &wait(1));
+        assert_eq!(found.facts[0].steps.len(), 1);
+        let entries = ["0 0 send 0 7 = stored", "0 0 subscribe 0 = new 2"];
+        let found = account(&["watch 0"], &entries, &wait(2));
+        let wanted = "`channel 0: recv` of actor 1 waits: the last change came before receiver 2 was created (call 2)";
+        assert!(
+            heads(&found)[0].starts_with(&wanted[..60]),
+            "{:?}",
+            heads(&found)
+        );
+        let steps = found.facts[0].steps.iter();
+        assert!(steps.map(|step| step.place).eq([1, 2, 2]));
+    }
+
+    #[test]
+    fn a_call_that_has_something_to_receive_waits_for_its_turn() {
+        let entries = [
+            "1 0 recv 1 = value 0",
+            "0 0 send 0 1 = sent 1",
+            "0 0 send 0 2 = sent 1",
+        ];
+        let entries = ["0 0 send 0 0 = sent 1"].into_iter().chain(entries);
+        let entries: Vec<_> = entries.collect();
+        let told = |call: &str, failed: u64| {
+            let names = format!(
+                r#"{{"locations": [["a.rs", 7, 1]], "calls": {{"0": [null, null, 0, null]}},
+                "panics": [{{"text": "", "location": null, "actor": 0, "since": {failed}}}],
+                "waiting": [{{"actor": 1, "channel": 0, "handle": 1, "call": "{call}", "since": 2, "location": null}}]}}"#
+            );
+            let found = account(&["broadcast 4"], &entries, &names);
+            found.waiting[0].text.clone()
+        };
+        let waits = |call: &str| format!("actor 1 in `channel 0: {call}` since call 2");
+        let came = ", which hasn't run since a value came (call 3, a.rs:7)";
+        assert_eq!(told("recv", 4), waits("recv") + came);
+        // At the failure nothing had come, and a predicate may have refused what did.
+        assert_eq!(told("recv", 2), waits("recv"));
+        assert_eq!(told("wait_for", 4), waits("wait_for"));
+    }
+}

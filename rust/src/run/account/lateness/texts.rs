@@ -1,0 +1,244 @@
+//! The words for what tasks did.
+
+use super::stretches::Stretch;
+use crate::run::account::{Context, visible};
+use crate::run::names::{SeenPoll, SeenTask, SeenWake, SourceLocation, TasksSeen, WokenBy};
+
+/// How many places of one wait are named.
+const MOST_PLACES: usize = 2;
+
+/// Which part of the time a task has to have run that another was ready, to be named.
+const PART_OF_READY: u64 = 2;
+
+/// What the texts are made of.
+pub(super) struct LateTexts<'a> {
+    context: &'a Context<'a>,
+    seen: &'a TasksSeen,
+}
+
+impl<'a> LateTexts<'a> {
+    pub(super) fn new(context: &'a Context<'a>, seen: &'a TasksSeen) -> LateTexts<'a> {
+        LateTexts { context, seen }
+    }
+
+    /// Returns the last call with a stamp up to this one, as `call 3` or `the start`.
+    pub(super) fn since(&self, stamp: u64) -> String {
+        self.context.since(self.context.place_of(stamp))
+    }
+
+    /// Returns a time, if times are told.
+    pub(super) fn time(&self, microseconds: u64) -> Option<String> {
+        self.seen.has_times.then(|| visible::duration(microseconds))
+    }
+
+    /// Returns what a task is called.
+    pub(super) fn name(&self, task: &SeenTask) -> String {
+        match task.actor {
+            Some(actor) => self.context.naming.actor(actor),
+            None => visible::name(&task.name),
+        }
+    }
+
+    fn source(&self, index: Option<usize>) -> Option<&'a SourceLocation> {
+        index.and_then(|index| self.context.names.locations.get(index))
+    }
+
+    /// Says that a task waited, where, and who woke it from the last of several waits.
+    pub(super) fn waited(
+        &self,
+        who: &str,
+        task: &SeenTask,
+        stretch: &Stretch,
+        (last, count): (usize, usize),
+    ) -> String {
+        let between = match stretch.to {
+            u64::MAX => format!("from {} on", self.since(stretch.from)),
+            to => format!("from {} to {}", self.since(stretch.from), self.since(to)),
+        };
+        let time = self.time(stretch.time);
+        let time = time.map_or(String::new(), |time| format!(" {time}"));
+        let times = if count > 1 {
+            format!(" ({count} times)")
+        } else {
+            String::new()
+        };
+        let places = self.in_places(waited_at(self.seen, task, stretch.index));
+        let woken = task.polls[last]
+            .woken
+            .as_ref()
+            .filter(|_| stretch.to != u64::MAX);
+        let by = woken.and_then(|woken| self.woken_by(task, woken));
+        let by = by.map_or(String::new(), |by| format!("; woken by {by}"));
+        format!("{between} {who} waited{time}{times}{places}{by}")
+    }
+
+    /// Returns the places where a task waits, as ` in Mutex::lock, src/db.rs:40`.
+    pub(super) fn in_places(&self, places: Vec<usize>) -> String {
+        if places.iter().any(|place| !is_known(self.seen, *place)) {
+            let since = self.seen.unknown_since.map(|stamp| self.since(stamp));
+            let since = since.map_or(String::new(), |since| format!(" from {since} on"));
+            return format!(", where isn't known, since tasks wait so often{since}");
+        }
+        let texts: Vec<_> = places
+            .iter()
+            .filter_map(|place| self.place(*place))
+            .collect();
+        match texts.as_slice() {
+            [] => String::new(),
+            texts => format!(" in {}", visible::first(texts, MOST_PLACES, " or ")),
+        }
+    }
+
+    /// Returns a place as `Mutex::lock, src/db.rs:40`.
+    fn place(&self, index: usize) -> Option<String> {
+        let place = &self.seen.places[index];
+        let what = visible::path(&place.what);
+        let at = self.source(place.location).map(visible::line_of);
+        let at = at.or_else(|| {
+            place
+                .function
+                .as_ref()
+                .map(|it| format!("in {}", visible::path(it)))
+        });
+        match (what.as_str(), at) {
+            ("", None) => None,
+            ("", Some(at)) => Some(at),
+            (what, None) => Some(what.to_string()),
+            (what, Some(at)) => Some(format!("{what}, {at}")),
+        }
+    }
+
+    /// Returns who woke a task, and where, as far as it is known.
+    pub(super) fn woken_by(&self, task: &SeenTask, woken: &SeenWake) -> Option<String> {
+        let place = woken.place.map(|place| &self.seen.places[place]);
+        let at = place.and_then(|place| self.source(place.location));
+        let at = at.map_or(String::new(), |at| format!(", {}", visible::line_of(at)));
+        Some(match &woken.by {
+            WokenBy::Task(by) if std::ptr::eq(&raw const self.seen.tasks[*by], task) => {
+                format!("itself{at}")
+            }
+            WokenBy::Task(by) => format!("{}{at}", self.name(&self.seen.tasks[*by])),
+            WokenBy::End(by) => format!("the end of {}", self.name(&self.seen.tasks[*by])),
+            WokenBy::Timer => "a timer".to_string(),
+            WokenBy::Runtime => "the runtime".to_string(),
+            WokenBy::Thread(name) => format!("thread {}", visible::name(name)),
+            WokenBy::Somebody => return None,
+        })
+    }
+
+    /// Returns the line at which a poll goes on: where the one before it waited.
+    pub(super) fn resumed_at(&self, task: &SeenTask, index: usize) -> Option<String> {
+        let before = &task.polls[index.checked_sub(1)?];
+        let place = woken_at(before).or(before.places.first().copied())?;
+        let place = &self.seen.places[place];
+        self.source(place.location).map(visible::line_of)
+    }
+
+    /// Says that a task sent so much in one poll.
+    pub(super) fn burst(&self, sender: &SeenTask, sends: &[u64], is_alone: bool) -> String {
+        let name = self.name(sender);
+        let values = visible::counted(sends.len() as u64, "value");
+        let source = |place: Option<&u64>| {
+            let entry = self.context.run.entry(*place?);
+            self.context.naming.call_source(entry.channel, *place?)
+        };
+        let lines = match (source(sends.first()), source(sends.last())) {
+            (Some(first), Some(last)) if first.file != last.file => {
+                format!(
+                    " ({} to {})",
+                    visible::line_of(first),
+                    visible::line_of(last)
+                )
+            }
+            (Some(first), Some(last)) if first.line != last.line => {
+                format!(" ({} to {})", visible::line_of(first), last.line)
+            }
+            (Some(first), _) => format!(" ({})", visible::line_of(first)),
+            (None, _) => String::new(),
+        };
+        let end = if is_alone {
+            ", which gives nobody a turn"
+        } else {
+            ""
+        };
+        format!("{name} sent {values} in one poll{lines}{end}")
+    }
+
+    /// Says who ran while the task of this index was ready, on the thread that polled it then.
+    pub(super) fn busy(&self, own: usize, stretch: &Stretch) -> Option<String> {
+        let polls = &self.seen.tasks[own].polls;
+        let next = polls.get(stretch.index + 1);
+        let thread = next.unwrap_or(&polls[stretch.index]).thread;
+        let ((from, to), now) = (stretch.times, self.seen.now);
+        let tasks = self.seen.tasks.iter().enumerate();
+        let tasks = tasks.filter(|(index, _)| *index != own && !self.is_around(*index, own));
+        let ran = tasks.flat_map(|(_, task)| {
+            // Those before have ended before it was ready.
+            let first = task
+                .polls
+                .partition_point(|poll| poll.end.is_some_and(|end| end < from));
+            let polls = task.polls.iter().enumerate().skip(first);
+            let polls = polls.take_while(|(_, poll)| poll.begin <= to);
+            let here = polls.filter(|(_, poll)| poll.thread == thread);
+            here.map(move |(index, poll)| {
+                let (begin, end) = (poll.begin, poll.end.unwrap_or(now));
+                let part = end.min(to).saturating_sub(begin.max(from));
+                (part, begin, (end - begin), task, index)
+            })
+        });
+        let (part, _, time, task, index) = ran.max_by_key(|it| (it.0, it.1))?;
+        let is_most = self.seen.has_times && part * PART_OF_READY >= stretch.time;
+        if !is_most {
+            return None;
+        }
+        let at = self.resumed_at(task, index);
+        let at = at.map_or(String::new(), |at| format!(", from {at}"));
+        let time = visible::duration(time);
+        Some(format!(
+            "{} ran {time} without giving way{at}",
+            self.name(task)
+        ))
+    }
+
+    /// Whether a task is polled in the polls of the other.
+    fn is_around(&self, around: usize, task: usize) -> bool {
+        let mut within = self.seen.tasks[task].within;
+        let mut left = self.seen.tasks.len();
+        while let Some(outer) = within.filter(|_| left > 0) {
+            if outer == around {
+                return true;
+            }
+            left -= 1;
+            within = self.seen.tasks[outer].within;
+        }
+        false
+    }
+}
+
+/// Whether anything is known of a place.
+fn is_known(seen: &TasksSeen, place: usize) -> bool {
+    let place = &seen.places[place];
+    !place.what.is_empty() || place.location.is_some() || place.function.is_some()
+}
+
+/// Returns the place of the waker by which a task was woken after a poll, if that was kept there at
+/// the poll's end.
+fn woken_at(poll: &SeenPoll) -> Option<usize> {
+    let kept_at = poll.woken.as_ref()?.kept_at?;
+    poll.places.contains(&kept_at).then_some(kept_at)
+}
+
+/// Returns the places where a task waited after the poll with this index: the last one, if it waits
+/// there after its next poll too; else the one by which it was woken; else all.
+pub(super) fn waited_at(seen: &TasksSeen, task: &SeenTask, index: usize) -> Vec<usize> {
+    let poll = &task.polls[index];
+    let next = task.polls.get(index + 1).filter(|next| next.end.is_some());
+    let stays = poll.places.first().filter(|place| {
+        next.is_some_and(|next| next.places.contains(place)) && is_known(seen, **place)
+    });
+    let kept_at = woken_at(poll).filter(|place| is_known(seen, *place));
+    match stays.copied().or(kept_at) {
+        Some(place) => vec![place],
+        None => poll.places.clone(),
+    }
+}
