@@ -119,21 +119,19 @@ fn places_of_function(name: &str, recording: &Recording) -> Result<Places, Strin
         Some((head, method)) => (Some(head), method),
         None => (None, name),
     };
-    let thing = match head {
-        None => None,
-        Some(head) => Some(
-            thing_of(head, recording).ok_or_else(|| format!("there is no `{head}` in this run"))?,
-        ),
-    };
+    let meant = head.map(|head| meant_by(head, recording));
+    if let (Some([]), Some(head)) = (meant.as_deref(), head) {
+        return Err(format!("there is no `{head}` in this run"));
+    }
     let places = recording.places_where(|place, entry| {
-        let is_its = match thing {
-            None => true,
-            Some(Thing::Actor(actor)) => entry.actor() == actor,
-            Some(Thing::Channel(channel)) => entry.channel() == channel,
-            Some(Thing::Receiver(channel, handle)) => {
+        let is_of = |thing: &Thing| match *thing {
+            Thing::Actor(actor) => entry.actor() == actor,
+            Thing::Channel(channel) => entry.channel() == channel,
+            Thing::Receiver(channel, handle) => {
                 (entry.channel(), entry.handle()) == (channel, handle)
             }
         };
+        let is_its = meant.as_ref().is_none_or(|all| all.iter().any(is_of));
         is_its && recording.names.method(place.into(), entry) == method
     });
     if places.is_empty() {
@@ -141,6 +139,21 @@ fn places_of_function(name: &str, recording: &Recording) -> Result<Places, Strin
     } else {
         Ok(places)
     }
+}
+
+/// Returns whose calls, or the calls on what, a function's name is of: of the actor and of the
+/// channel that have the name, since receivers are called by their readers; or else of what it
+/// stands for.
+fn meant_by(head: &str, recording: &Recording) -> Vec<Thing> {
+    let actor = recording.things.actor(head).map(Thing::Actor);
+    let mut channels = 0..recording.walk().channels();
+    let channel = channels.find(|it| recording.names.channel(*it) == head);
+    let mut meant: Vec<_> = actor.into_iter().collect();
+    meant.extend(channel.map(Thing::Channel));
+    if meant.is_empty() {
+        meant.extend(thing_of(head, recording));
+    }
+    meant
 }
 
 /// Returns the condition that data are watched by, if the run has these data.

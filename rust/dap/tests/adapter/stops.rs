@@ -3,6 +3,7 @@
 
 use crate::support::{Client, Folder, Lines, save_bus, this_file};
 use serde_json::{Value, json};
+use yovanelum::{Recorder, block_on, broadcast, named};
 
 /// The threads of the bus: the ticker makes the first call.
 const TICKER: u64 = 1;
@@ -87,6 +88,33 @@ fn a_single_thread_passes_what_others_hit() {
     assert_eq!(stop["text"], "the start of the run");
     client.go("continue", json!({"threadId": AUDITOR}));
     assert_eq!(client.console("number"), "3");
+}
+
+#[test]
+fn a_function_of_an_actor_has_all_calls_that_it_makes() {
+    let folder = Folder::new();
+    let recorder = Recorder::new();
+    let _entered = recorder.enter();
+    let (orders, mut audit) = broadcast::channel(4);
+    let (reports, _read) = broadcast::channel(4);
+    recorder.name(&reports, "auditor");
+    orders.send(1).unwrap();
+    // The receiver of the orders is called by its reader, and the channel of the reports is too.
+    block_on(named("auditor", async {
+        audit.recv().await.unwrap();
+        orders.send(2).unwrap();
+    }));
+    reports.send(3).unwrap();
+    let journal = folder.path("auditor.journal");
+    recorder.save(&journal).unwrap();
+    let mut client = Client::new(false);
+    client.launch(json!({"journal": journal, "stopAt": "start"}));
+    let sends = json!({"breakpoints": [{"name": "auditor.send"}]});
+    numbers(&client.ask("setFunctionBreakpoints", sends));
+    for place in ["3", "4"] {
+        client.go("continue", json!({"threadId": TICKER}));
+        assert_eq!(client.console("number"), place);
+    }
 }
 
 #[test]

@@ -149,7 +149,8 @@ impl Expected {
         }
     }
 
-    /// The breakpoint of a function: a method, with a channel or an actor before it.
+    /// The breakpoint of a function: a method, of an actor's calls or of those on a channel if one is
+    /// before it. An actor's name is that of its calls, also where it is its receiver's name.
     pub fn at_function(&self, head: Option<&str>, method: &str) -> Point {
         let channel = match head {
             Some("orders") => Some(0),
@@ -210,10 +211,13 @@ impl Expected {
         }
     }
 
-    /// Leaves the hits that meet a condition.
+    /// Leaves the hits that meet a condition. One of an actor that made no call is none.
     pub fn keep(&self, point: &mut Point, condition: usize) -> Value {
         let run = &self.run;
         let name = |place: u32| run.names.get(&run.call(place).actor).map(String::as_str);
+        if condition == 1 && (1..=run.len()).all(|place| name(place) != Some("task-0")) {
+            point.hits = None;
+        }
         let (text, holds): (_, Box<dyn Fn(u32) -> bool>) = match condition {
             0 => ("number >= 5", Box::new(|place| place >= 5)),
             1 => (
