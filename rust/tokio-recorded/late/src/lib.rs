@@ -1,6 +1,8 @@
 //! What the programs of `tests/late.rs` share: a store behind a lock, how many orders were sent,
 //! and waits.
 
+pub mod events;
+
 use std::sync::Arc;
 use std::sync::atomic::{AtomicU32, Ordering};
 use std::time::Duration;
