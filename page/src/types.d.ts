@@ -77,6 +77,10 @@ interface Account {
   /** Where the run begins in a window: when and why that was written. */
   window?: { text: string };
   waiting: { text: string; since: number; actor?: number; channel?: number; handle?: number; location?: [string, number, number] | null }[];
+  /** The tasks that wait for something else than a call. */
+  tasks: { text: string }[];
+  /** How the test failed, with its line. */
+  failed: { text: string; place: number; location?: [string, number, number] | null } | null;
   failure: number | null;
   look: number;
 }

@@ -93,10 +93,11 @@ def open_in_the_editor(tab, folder, journals):
     the place of the panic. Another editor is kept for the next time, and what is no editor's address makes no link."""
     page, place = failing.addresses()["no_price_is_missing"]
     names = names_beside(page)
-    places = [it["location"] for fact in names["account"]["facts"] for it in fact["places"] if it["location"]]
+    places = [names["account"]["failed"]["location"]]
+    places += [it["location"] for fact in names["account"]["facts"] for it in fact["places"] if it["location"]]
     places += [names["locations"][it["location"]] for it in names["panics"]]
     opening.load(tab, page, place)
-    assert len(places) == 3 and tab.run(LINKS) == [
+    assert len(places) == 4 and tab.run(LINKS) == [
         [f"vscode://file{names['root']}/{file}:{line}:{column}", f"{file}:{line}:{column}"] for file, line, column in places], tab.run(LINKS)
     said = tab.run("document.querySelector('#sentence .source a').href")
     assert said == f"vscode://file{names['root']}/src/lib.rs:{failing.line_of('a price is sent').split(':')[1]}:20", said

@@ -4,7 +4,7 @@ import assert from "node:assert/strict";
 import test from "node:test";
 import { hitsOfCondition } from "../src/findings/conditions.js";
 
-// A run of so many calls, at each of which a condition has a hit, as the console answers.
+// A run of `hits` calls, at each of which a condition has a hit, as the console answers.
 function runOf(hits) {
   return {
     async ask(commands) {

@@ -9,10 +9,10 @@ import { builtEngine, journalOf, opened } from "./built_engine.js";
 
 const bytes = text => new TextEncoder().encode(text);
 
-// A journal text of so many sends, of which nobody receives one.
+// A journal text of `count` sends, of which nobody receives one.
 const sends = (count, heads = ["broadcast 2"]) => journalOf(heads, Array.from({ length: count }, (_, i) => `0 0 send 0 ${i} = sent 1`));
 
-// The spans of how much the receiver has to receive, in so many stretches of one place from the first call on.
+// The spans of how much the receiver has to receive, in `stretches` stretches of one place from the first call on.
 const spans = (engine, stretches) => levelsIn(engine, [0], 1, 1, stretches).map(({ channel, receiver, spans }) => [channel, receiver, ...spans]);
 
 test("as many stretches are answered as the limit allows, and one more is refused", () => {

@@ -117,8 +117,9 @@ WANTED = {
         {"0 1": (2, 0)}, rest="and 1 receiver lost 2 values"),
     "the_orders_are_whole": Wanted(
         {"the_orders_are_whole"}, ["metrics", "orders"], {"0 1": "held · receiver 1", "1 1": "desk · receiver 1"},
-        {"order 71", "order 72", "order 73"},
+        {"order 71", "order 72", "order 73", "its 1st value", "its 15th value"},
         [("the_orders_are_whole on orders: send 0 2 → sent 1", "order 71, not read by desk · receiver 1", "an order is sent"),
+         ("the_orders_are_whole on metrics: send 0 4 → sent 1", "its 1st value, not read by held · receiver 1", "a metric is sent"),
          ("the_orders_are_whole on orders: try-recv 1 → lagged 1", "lost order 71", "the desk is told")],
         [["`desk` lost 1 of 3 values of `orders` (capacity 2)",
           ' call 18 orders.send("order 73") the_orders_are_whole {an order is sent} overwrote "order 71", which desk had not read',
@@ -321,8 +322,8 @@ def spaced(line):
 
 
 def untimed(line):
-    """A line of a fact with single spaces, without the time of its call, which only a window has."""
-    return re.sub(r"; at [\d:.]+ UTC, .*", "", spaced(line))
+    """A line of a fact with single spaces, without the time of its call, which only a window has, and how long before a loss it was."""
+    return re.sub(r"; at [\d:.]+ UTC, .*|, \d+ \w+ before the loss", "", spaced(line))
 
 
 def placed(line):
@@ -404,6 +405,33 @@ def check_answer_text(tab, account):
     }, answer
 
 
+# The lines of the answer from top to bottom, without what is folded, what the page adds to a fact, and how the test ended in full.
+ANSWER_LINES = """[...document.querySelectorAll('#answer-box :is(.line, p, .rest summary, .waits b)')].filter(line => !line.closest('.rest .fact, .ends'))
+    .map(line => line.textContent)"""
+
+
+def report_lines(printed):
+    """The lines of a printed report without what a terminal needs: the levels, the form of rustc, and calls that wait on one line."""
+    for line in printed:
+        if re.match("note: (?:call|the) |  --> ", line):
+            continue
+        if line.startswith("still waiting: "):
+            yield "still waiting:"
+            yield from (f"  {it}" for it in line.removeprefix("still waiting: ").split("; "))
+        else:
+            yield re.sub("^(?:error|warning|note|yovanelum): ", "", line)
+
+
+def check_order(tab, name, page):
+    """From top to bottom the page has the lines of what the test printed, or of what `why` prints where a watchdog told less."""
+    printed = why(page).split("\nlook: ")[0].split("\n") if name == HANGS else report_of(name)
+    shown, wanted = tab.run(ANSWER_LINES), list(report_lines(printed))
+    if any(line.startswith("  ") and " since " in line for line in shown) and "still waiting:" not in wanted:
+        # A call of which a fact tells isn't listed again in print.
+        shown = shown[:shown.index("still waiting:")]
+    assert shown == wanted, (shown, wanted)
+
+
 def check_answer(tab, account):
     """The page shows the account, and each step of it leads to its place."""
     check_answer_text(tab, account)
@@ -466,7 +494,7 @@ def check_calls(wanted, calls):
 
 
 def check_losses(tab, wanted, losses, lead):
-    """The table has what the command says and what the source says, and L goes to where the losses of the command begin and end. So many entries lead to
+    """The table has what the command says and what the source says, and L goes to where the losses of the command begin and end. `lead` entries lead to
     the calls, if the first ones aren't there."""
     tab.key("t")
     rows = tab.run(ROWS)
@@ -514,6 +542,7 @@ def page_of_test(name):
         page, place = addresses()[name]
         account = check_account(name, page)
         opening.load(tab, page, place, 120 if name == FULL else opening.PATIENCE)
+        check_order(tab, name, page)
         check_answer(tab, account)
         check_page(tab, name)
         check_losses(tab, WANTED[name], account["losses"], account.get("window", {"lead": 0})["lead"])

@@ -215,7 +215,7 @@ def report_as_markdown(tab, folder, journals):
     copied = tab.run("copied")
     with open(failing.beside(page, ".names"), encoding="utf-8") as file:
         account = json.load(file)["account"]
-    told = [fact["text"] for fact in account["facts"][:account["rest"]["after"]]] + [[account["rest"]["text"]]]
+    told = [[f"failed: {account['failed']['text']}"], *(fact["text"] for fact in account["facts"][:account["rest"]["after"]]), [account["rest"]["text"]]]
     head, found_, here, link = re.fullmatch(r"(### .*)\n\n(```+)text\n(.*?)\n\2\n\n```+text\n(.*?)\n```+\n\n(.*)\n", copied, re.S).group(1, 3, 4, 5)
     assert head == "### no\\_price\\_is\\_missing.journal" and found_ == "\n".join(line for fact in told for line in fact), copied
     lines = here.split("\n")

@@ -80,9 +80,9 @@ def panel_of(state):
         rows.append("closed" if channel["closed"] else "open")
         rows.append("values: " + " ".join(boxes_of(channel)))
         rows += [f"receiver {it['handle']}: {standing(it, channel)}" for it in channel["receivers"]]
-        rows.append("senders: " + (", ".join(map(str, channel["senders"])) or "none"))
+        rows.append("senders: " + (", ".join(f"sender {it}" for it in channel["senders"]) or "none"))
         if "weak" in channel:
-            rows.append("weak senders: " + ", ".join(map(str, channel["weak"])))
+            rows.append("weak senders: " + ", ".join(f"weak sender {it}" for it in channel["weak"]))
     return rows
 
 

@@ -12,7 +12,7 @@ function chanceOf(seed) {
   };
 }
 
-// Partners of so many calls here among some calls there: each has one, or none.
+// Partners of `here` calls here among `there` calls there: each has one, or none.
 function partnersOf(chance, here, there) {
   const free = Array.from({ length: there }, (_, i) => i + 1);
   const partner = () => (chance(4) === 0 || free.length === 0 ? 0 : free.splice(chance(Math.min(free.length, 3)), 1)[0]);

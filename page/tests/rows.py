@@ -63,7 +63,7 @@ def wide():
 
 
 def at_losses(tab, page, made, most):
-    """Goes to so many losses by L, on three sizes, and looks at each. Yields at the start of each size and at each loss, and whether it's the last."""
+    """Goes to at most `most` losses by L, on three sizes, and looks at each. Yields at the start of each size and at each loss, and whether it's the last."""
     path, ask = page
     losses = found.losses_of(ask, made)
     stops = found.stops_of(losses)[:most]

@@ -30,6 +30,7 @@ import shown
 import sources
 import speed
 import story
+import tasks
 import texts
 import weak
 import wheel_and_stop
@@ -60,7 +61,7 @@ TESTS = [
     jumps.picture_as_png, jumps.picture_as_svg, jumps.report_as_markdown, jumps.help_of_keys, jumps.zoom_at_pointer, jumps.touch,
     hands.waiting_script, hands.refusals, hands.example, hands.files_that_are_not_there, hands.addresses, shown.large_runs,
     shown.quick_walking, shown.many_handles, weak.weak_senders, weak.weak_rows, texts.large_numbers, texts.long_texts, speed.figures,
-    *losses.TESTS, *lives.TESTS, *sources.TESTS, *failing.TESTS, *accounts.TESTS, *layout.TESTS, *search.TESTS, *story.TESTS, *against.TESTS, *windows.TESTS,
+    *losses.TESTS, *lives.TESTS, *sources.TESTS, *failing.TESTS, *accounts.TESTS, *layout.TESTS, *search.TESTS, *story.TESTS, *tasks.TESTS, *against.TESTS, *windows.TESTS,
     *beginning.TESTS,
     bare(answers.example_sessions), random_commands, spoiled_texts,
 ]

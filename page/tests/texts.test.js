@@ -1,7 +1,7 @@
 // Texts, numbers, names and entries, as the page reads and writes them.
 import assert from "node:assert";
 import { test } from "node:test";
-import { countOf, grouped, sizeOf } from "../src/base/numbers.js";
+import { countOf, grouped, nth, sizeOf } from "../src/base/numbers.js";
 import { isolated, visible, visibleLines } from "../src/base/text.js";
 import { readEntry } from "../src/run/entries.js";
 import { Names, readNames } from "../src/run/names.js";
@@ -13,6 +13,8 @@ test("numbers have separators, and units", () => {
   assert.deepStrictEqual([0, 999, 1000, 1234567].map(grouped), ["0", "999", "1,000", "1,234,567"]);
   assert.deepStrictEqual([countOf(1, "call"), countOf(2, "call"), countOf(1000, "loss", "losses")], ["1 call", "2 calls", "1,000 losses"]);
   assert.deepStrictEqual([999, 1500, 2_600_000].map(sizeOf), ["999 bytes", "2 KB", "3 MB"]);
+  assert.deepStrictEqual([1, 2, 3, 4, 11, 12, 13, 22, 101, 113, 2n ** 64n].map(nth),
+    ["1st", "2nd", "3rd", "4th", "11th", "12th", "13th", "22nd", "101st", "113th", "18446744073709551616th"]);
 });
 
 test("what hides in a text is written out, and ends of lines of `{:#?}` are signs", () => {
@@ -45,6 +47,19 @@ test("states are read, and values that a browser would round are texts", () => {
       receivers: [{ handle: 1, position: 3, unread: 4, lag: 2 }] },
     { kind: "watch", closed: false, value: 2 ** 32, version: 3, senders: [0], receivers: [{ handle: 1, mark: null, seen: false }, { handle: 2, mark: 3, seen: true }] },
   ] }]);
+});
+
+test("a value without a text is called by which of its channel's it is, where the crate has numbered it", () => {
+  const values = '"values": {"0": {"70": "order 71"}}';
+  const [recorded, script] = [`{"journal": "12", ${values}}`, `{${values}}`].map(readNames);
+  for (const names of [recorded, script]) {
+    assert.deepStrictEqual([names.value(0, 70), names.shortValue(0, "70"), names.valueLines(0, 70)], ["order 71", "order 71", "order 71"]);
+    assert.strictEqual(names.isOrdinal(0, 70), false);
+  }
+  for (const number of [0, "0"]) assert.deepStrictEqual([recorded.value(0, number), recorded.shortValue(0, number)], ["its 1st value", "1st"]);
+  assert.deepStrictEqual([recorded.value(1, 70), recorded.valueLines(1, 70), recorded.isOrdinal(1, 70)], ["its 71st value", "its 71st value", true]);
+  // There a number is the value itself.
+  assert.deepStrictEqual([script.value(0, 0), script.shortValue(0, 0), script.isOrdinal(0, 0)], ["0", "0", false]);
 });
 
 test("a journal is told from a script", () => {

@@ -2,7 +2,7 @@
 //!
 //! - `long CALLS CHANNELS LAST`: sends, receives, receivers that lag and that come and go. It
 //!   prints what a call takes in each tenth, and the memory.
-//! - `dump CHANNELS LAST`: dumps of channels with so many calls each, beside a service. It prints
+//! - `dump CHANNELS LAST`: dumps of channels with `LAST` calls each, beside a service. It prints
 //!   how long each takes, and how long the service's calls take meanwhile.
 
 use std::fs::{self, read_to_string};

@@ -103,6 +103,7 @@ pub mod explore {}
 /// [`Recorder::off`]: crate::Recorder::off
 /// [`ChannelSnapshot::of`]: crate::ChannelSnapshot::of
 /// [`guide::flight`]: crate::guide::flight
+/// [`guide::swap`]: crate::guide::swap
 pub mod service {}
 
 #[doc = include_str!("guide/flight.md")]

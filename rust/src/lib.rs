@@ -126,7 +126,7 @@ pub use harness::program::set_patch;
 pub use run::command::command;
 pub use run::debugger;
 #[doc(hidden)]
-pub use run::names::{Json, read_json};
+pub use run::sidecar::{Json, read_json};
 #[doc(hidden)]
 pub use schedule::replay::Replayed;
 

@@ -137,6 +137,28 @@ fn why_prints_the_account_as_json() {
 }
 
 /// Names with the place of call 4, a send, in a package of a repository.
+/// The receive of a handle that was dropped is none: nobody has ever read by it.
+#[test]
+fn a_refused_receive_is_no_use_of_a_receiver() {
+    let folder = Folder::new("gone-receiver");
+    let journal = "\
+ttd-journal 2
+broadcast 1
+steps
+1 0 0 send 0 5 = sent 1
+2 0 0 send 0 6 = sent 1
+3 1 0 drop 1 = dropped
+4 1 0 recv 1 = gone
+end
+";
+    fs::write(folder.0.join("orders.journal"), journal).unwrap();
+    let (status, said, _) = run(&folder.0, &["why", "orders.journal"]);
+    let told = "\n  call 3   held, never read ";
+    assert!(status == 0 && said.contains(told), "{said}");
+    let (_, json, _) = run(&folder.0, &["why", "orders.journal", "--json"]);
+    assert!(json.contains("\"order\": 13"), "{json}");
+}
+
 fn names_with_places() -> String {
     let more = r#", "locations": [["src/a b.rs", 9, 5]], "calls": {"1": [null, null, null, 0]}, "root": "/repo/bus"}"#;
     NAMES.strip_suffix('}').unwrap().to_string() + more
@@ -238,6 +260,20 @@ fn each_result_of_sarif_has_a_place() {
         );
         assert!(result.unwrap().contains(&uri), "{rule} {said}");
     }
+    // A call of a library has the place where its sender was created. A panic there has none.
+    let names = names.replace("a.rs", "/home/me/.cargo/registry/src/a.rs");
+    let names = names.replace("\"location\": 1", "\"location\": 0");
+    let names = names.replacen('{', r#"{"made": {"0": {"0": 1}}, "#, 1);
+    let said = sarif(&names);
+    let places: Vec<_> = said.split("\"uri\": \"").skip(1).collect();
+    assert!(
+        said.contains("\"results\": [{\"ruleId\": \"waiting\""),
+        "{said}"
+    );
+    assert!(
+        matches!(places[..], [place] if place.starts_with("b.rs")),
+        "{said}"
+    );
 }
 
 #[test]
@@ -470,13 +506,14 @@ fn a_command_line_that_is_wrong_is_answered_by_the_usage() {
         ),
         (
             &["why", "a", "--json", "--sarif"],
-            "give one of `--json` and `--sarif`",
+            "give one of `--sources`, `--json` and `--sarif`",
         ),
     ] {
         let (status, out, told) = run(&folder.0, words);
         assert_eq!((status, out.as_str()), (2, ""));
-        let start =
-            format!("yovanelum: {fault}\n\nUsage: yovanelum why JOURNAL [--json | --sarif]\n");
+        let start = format!(
+            "yovanelum: {fault}\n\nUsage: yovanelum why JOURNAL [--sources | --json | --sarif]\n"
+        );
         assert!(told.starts_with(&start), "{told}");
     }
     let (status, out, told) = run(&folder.0, &["--help"]);

@@ -50,6 +50,18 @@ fn orders_are_audited() {
     audit.unwrap().join().unwrap();
     assert!(std::env::var_os("FAILS").is_none(), "it fails in each order");
 }
+
+#[test]
+fn the_till_is_balanced() {
+    let recorder = Recorder::for_test("the_till_is_balanced");
+    let (orders, mut rx) = broadcast::channel(2);
+    let shop = thread::Builder::new().name("shop".to_string());
+    let shop = shop.spawn(move || orders.send(71).unwrap());
+    rx.blocking_recv().unwrap();
+    shop.unwrap().join().unwrap();
+    // What it looks at is in no journal: a replay of one passes.
+    assert!(recorder.replayed().is_some(), "the till is short");
+}
 "#;
 
 fn workspace() -> &'static Workspace {
@@ -111,6 +123,8 @@ fn a_receiver_that_can_lag_is_found_and_its_lines_bring_the_state_back() {
     assert!(!passes, "{said}");
     assert!(said.contains(" met `lagging audit`, in run "), "{said}");
     let place = call(&said);
+    let made = ": `shop 2` made orders.send(its 3rd value) (tests/bus.rs:";
+    assert!(said.contains(made), "{said}");
     let met = "\"for\": \"lagging audit\", \"isThere\": true, \"met\": {\"order\": ";
     assert!(json.contains(met), "{json}");
     assert!(json.contains(&format!("\"call\": {place}, ")), "{json}");
@@ -203,6 +217,35 @@ fn a_test_that_fails_before_the_condition_is_met_is_reported_as_one() {
         "{json}"
     );
     assert!(json.contains("\"failure\": \"tests/bus.rs:"), "{json}");
+}
+
+/// The schedule alone brings the failure back, so it is kept beside the journal. A run that follows
+/// it writes a journal without one.
+#[test]
+fn the_line_of_a_run_by_a_schedule_names_the_journal_that_has_it() {
+    let _turn = in_turn();
+    let files = workspace().0.join("target/yovanelum/shop/test-bus");
+    let journal = files.join("the_till_is_balanced.journal");
+    let _ = fs::remove_file(&journal);
+    let ran = run("YOVANELUM_EXPLORE=20 cargo test --test bus the_till");
+    let said = printed(&ran);
+    assert!(!ran.status.success(), "{said}");
+    assert!(journal.with_extension("schedule").exists(), "{said}");
+    let mut line = line_after(&said, "replay: ").to_string();
+    let wanted = format!("YOVANELUM_REPLAY={} cargo test ", journal.display());
+    for _ in 0..2 {
+        assert!(line.starts_with(&wanted), "{line}");
+        let ran = run(&line);
+        let replayed = printed(&ran);
+        assert!(!ran.status.success(), "{replayed}");
+        let failed = "failed: the_till_is_balanced at tests/bus.rs:";
+        assert!(
+            replayed.contains(failed) && replayed.contains(": the till is short"),
+            "{replayed}"
+        );
+        assert!(!replayed.contains("isn't replayed"), "{replayed}");
+        line = line_after(&replayed, "replay: ").to_string();
+    }
 }
 
 /// Nobody orders these runs, so the condition is one that each meets, or none.

@@ -7,7 +7,11 @@ use std::fs;
 use std::panic::{AssertUnwindSafe, catch_unwind};
 use std::path::Path;
 use std::process::Command;
-use support::parts::{Folder, address, files, is_part, line_after, our_lines, play};
+use std::task::{Context, Waker};
+use std::thread;
+use std::time::{Duration, Instant};
+use support::durations::Measured;
+use support::parts::{Folder, address, between, files, is_part, line_after, our_lines, play};
 use yovanelum::broadcast::error::TryRecvError;
 use yovanelum::{Recorder, block_on, broadcast, named, watch};
 
@@ -321,6 +325,57 @@ impl Drop for TestsItself {
         let _recorder = Recorder::for_test("third");
         drop(broadcast::Sender::<u32>::new(4));
     }
+}
+
+/// The test measures the wait, and prints that.
+#[test]
+fn a_wait_that_was_dropped_is_told_with_how_long_it_took() {
+    if is_part() {
+        let recorder = Recorder::for_test("waited");
+        let (orders, mut audit) = broadcast::channel::<u32>(2);
+        recorder.name(&orders, "orders");
+        let mut receive = Box::pin(audit.recv());
+        let before = Instant::now();
+        assert!(
+            receive
+                .as_mut()
+                .poll(&mut Context::from_waker(Waker::noop()))
+                .is_pending()
+        );
+        let waits = Instant::now();
+        // It is this time that is told.
+        thread::sleep(Duration::from_millis(30));
+        let dropping = Instant::now();
+        drop(receive);
+        let Measured { least, most } = Measured::between([before, waits, dropping, Instant::now()]);
+        panic!("no order in {least} to {most} us");
+    }
+    let test = "a_wait_that_was_dropped_is_told_with_how_long_it_took";
+    let folder = Folder::new(test);
+    let (succeeds, said) = play(test, &folder.0, None);
+    assert!(!succeeds, "{said}");
+    let (least, most) = between(&said, "no order in ", " us")
+        .split_once(" to ")
+        .unwrap();
+    let [least, most] = [least, most].map(|it| it.parse().unwrap());
+    let measured = Measured { least, most };
+    let head = between(&said, "error: `orders.recv` of ", "\n");
+    let waited = between(
+        head,
+        " waited ",
+        " and was dropped: nothing was sent to `orders`",
+    );
+    assert!(measured.is_said(waited), "{measured:?}: {said}");
+    let journal = files(&folder.0).join("waited.journal");
+    let why = Command::new(env!("CARGO_BIN_EXE_yovanelum"))
+        .arg("why")
+        .arg(journal)
+        .arg("--json")
+        .output()
+        .unwrap();
+    let json = String::from_utf8(why.stdout).unwrap();
+    let waited = between(&json, "\"waited\": ", ", ").parse().unwrap();
+    assert!(measured.is(waited), "{measured:?}: {json}");
 }
 
 #[test]

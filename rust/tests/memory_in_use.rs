@@ -20,7 +20,7 @@ fn resident() -> usize {
 
 type Channel = (broadcast::Sender<u32>, broadcast::Receiver<u32>);
 
-/// Uses channels in random order so many times.
+/// Uses channels in random order, `times` times.
 fn use_some(channels: &mut [Channel], random: &mut Random, times: u32) {
     for value in 0..times {
         let at = random.below(channels.len());

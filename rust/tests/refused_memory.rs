@@ -235,8 +235,10 @@ fn a_flight_recorder_that_finds_no_memory_loses_a_dump_and_no_call() {
 fn the_last_calls_of_a_channel_go_on_where_a_chunk_finds_no_memory() {
     let recorder = Recorder::flight(100);
     let _entered = recorder.enter();
-    let (tx, mut rx) = broadcast::channel(4096);
-    // The copy of the ring of 4096 values is the one block of 32 KiB.
+    let (tx, mut rx) = broadcast::channel(4);
+    let _others: Vec<_> = (0..8_000).map(|_| tx.subscribe()).collect();
+    let before = recorder.len();
+    // The copy of the table of 8,002 handles is the one block above 32 KiB.
     let ((), refused) = refusing(Refusal::above(32 << 10), || {
         for value in 0..150u64 {
             tx.send(value).unwrap();
@@ -244,7 +246,7 @@ fn the_last_calls_of_a_channel_go_on_where_a_chunk_finds_no_memory() {
         }
     });
     assert!(refused > 100, "{refused}");
-    assert_eq!(recorder.len(), 300);
+    assert_eq!(recorder.len(), before + 300);
     for value in 150..350 {
         tx.send(value).unwrap();
         assert_eq!(rx.try_recv(), Ok(value));

@@ -7,6 +7,7 @@ mod support;
 
 use std::ffi::OsStr;
 use std::fs;
+use std::os::unix::fs::PermissionsExt;
 use std::path::{Path, PathBuf};
 use std::process::{Command, Output};
 use support::console;
@@ -55,13 +56,22 @@ fn main() {
             mailing.unwrap().join().unwrap_err();
             broadcast::error::TryRecvError::Empty
         }
+        "a lag, and then panics" => {
+            let reply = serve(&recorder);
+            for number in 0..2 {
+                let till = thread::Builder::new().name(format!("till {number}"));
+                till.spawn(|| panic!("no change")).unwrap().join().unwrap_err();
+            }
+            reply
+        }
         _ => {
             let (_orders, _mailer) = broadcast::channel::<u64>(16);
             panic!("the till is open");
         }
     };
     println!("{reply:?}");
-    while recorder.dumps().written() + recorder.dumps().failed() == 0 {
+    let wanted = if words[2] == "a lag, and then panics" { 3 } else { 1 };
+    while recorder.dumps().written() + recorder.dumps().failed() < wanted {
         thread::yield_now();
     }
     println!("{:?}", recorder.dumps());
@@ -88,15 +98,22 @@ fn run(workspace: &Workspace, set: &str, how: &str) -> Output {
         .unwrap()
 }
 
-/// Returns the journal of the only dump of this folder.
-fn journal(dumps: &Path) -> PathBuf {
+/// Returns the journals of the dumps of this folder.
+fn journals(dumps: &Path) -> Vec<PathBuf> {
     let files = fs::read_dir(dumps)
         .unwrap()
         .map(|file| file.unwrap().path());
-    let mut journals = files.filter(|path| path.extension().is_some_and(|it| it == "journal"));
-    let journal = journals.next().expect("a dump");
-    assert_eq!(journals.next(), None);
-    journal
+    files
+        .filter(|path| path.extension().is_some_and(|it| it == "journal"))
+        .collect()
+}
+
+/// Returns the journal of the only dump of this folder.
+fn journal(dumps: &Path) -> PathBuf {
+    let [journal] = &journals(dumps)[..] else {
+        panic!("one dump");
+    };
+    journal.clone()
 }
 
 fn said(program: impl AsRef<OsStr>, words: &[&str], file: &Path) -> String {
@@ -150,6 +167,34 @@ fn a_service_that_gets_no_thread_says_so_and_goes_on() {
     let said = "yovanelum: a dump isn't written: no thread for it: ";
     assert_eq!(printed(&run).matches(said).count(), 1, "{}", printed(&run));
     assert!(!dumps.exists());
+}
+
+#[test]
+fn panics_right_after_a_lag_leave_dumps_of_their_own() {
+    let _turn = in_turn();
+    let (workspace, dumps) = workspace();
+    let run = run(&workspace, "", "a lag, and then panics");
+    let out = String::from_utf8(run.stdout.clone()).unwrap();
+    let wanted = "Lagged(84)\nDumps { written: 3, failed: 0, left_out: 0 }\n";
+    assert_eq!(out, wanted, "{}", printed(&run));
+    let reasons = journals(&dumps).into_iter().map(|journal| {
+        let names = fs::read_to_string(journal.with_extension("names")).unwrap();
+        let window = member(&names, "window").to_string();
+        let (_, reason) = window.split_once("\"reason\": \"").unwrap();
+        reason
+            .split([' ', '"'])
+            .take(2)
+            .collect::<Vec<_>>()
+            .join(" ")
+    });
+    let mut reasons: Vec<_> = reasons.collect();
+    reasons.sort();
+    assert_eq!(reasons, ["`audit` lost", "till 0", "till 1"]);
+    let modes = [dumps.clone(), journals(&dumps)[0].clone()].map(|path| {
+        let mode = fs::metadata(path).unwrap().permissions().mode();
+        mode & 0o777
+    });
+    assert_eq!(modes, [0o700, 0o600]);
 }
 
 #[test]

@@ -1,4 +1,5 @@
 pub mod Counting
+pub mod Numbered
 pub mod Receiving
 pub mod Watching
 pub mod Acting

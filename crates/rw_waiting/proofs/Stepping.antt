@@ -1,15 +1,14 @@
 -- Nobody waits in vain, by the laws of waiting.
-use Rattle.std.proofs.Common.{◌≡◌, ℕ, ◌+◌, ◌<◌, ◌≤◌, Bool, true, false, cond, List, [], ◌∷◌, refl, ap, sym, ◌∙◌, subst, arith}
+use Rattle.std.proofs.Common.{◌≡◌, ℕ, ◌+◌, ◌<◌, ◌≤◌, Bool, true, false, cond, List, [], ◌∷◌, refl, ap, ◌∙◌, arith}
 use Rattle.std.specs.Prelude.{Option, Some, None, nat_le}
 use Rattle.std.proofs.lemmas.List.Sums.{sum_by-append}
 use Rattle.rw_waiting.specs.declared.notices.WaitFor.{WaitFor}
 use Rattle.rw_waiting.specs.declared.notices.WaitFor.TheVariants.{Value, NoReceiver}
-use Rattle.rw_waiting.specs.Queue.{Queued}
 use Rattle.rw_waiting.specs.Listed.{Listed, nobody, waiting_for, with_waiter, after_told}
 use Rattle.rw_waiting.specs.Waitable.{Waitable, WaitLaws}
 use Rattle.rw_waiting.specs.Steps.{Step, Make, Begin, GiveUp, many, IsListed, Stays, view_after, listed_after, woken_by}
 use Rattle.rw_waiting.specs.Steps.{view_after_all, listed_after_all, woken_by_all, Spare, NobodyWaitsInVain, WakesOnlyTheReady, IsWokenOrListed, WakesOnce}
-use Rattle.rw_waiting.proofs.Acting.{act_on, act_of, act_told, given, acts, gives, next_grows, bit, IsNotLeaving, many_after, many_less, unused, budget, spends}
+use Rattle.rw_waiting.proofs.Acting.{act_of, act_told, acts, gives, next_grows, bit, IsNotLeaving, many_after, many_less, unused, budget, spends}
 
 emptied : {W : Type 0} (l : Listed W) (what : WaitFor) (t : ℕ) → many t (waiting_for (after_told l (Some what)) what).items ≡ 0
 emptied l Value t = refl

@@ -1,9 +1,9 @@
 -- Nobody waits in vain: what holds over any steps of a channel and of those who wait for it.
-use Rattle.std.specs.Prelude.{◌≡◌, ℕ, ◌+◌, ◌<◌, ◌≤◌, ◌==◌, List, [], ◌∷◌, ◌++◌, count_by, Option, Some, None, ⊤}
+use Rattle.std.specs.Prelude.{◌≡◌, ℕ, ◌+◌, ◌<◌, ◌≤◌, ◌==◌, List, [], ◌∷◌, ◌++◌, count_by, Option, Some, ⊤}
 use Rattle.rw_waiting.specs.declared.notices.WaitFor.{WaitFor}
 use Rattle.rw_waiting.specs.declared.notices.WaitFor.TheVariants.{Value, NoReceiver}
 use Rattle.rw_waiting.specs.declared.queue.Entry.{Entry}
-use Rattle.rw_waiting.specs.Listed.{Listed, nobody, waiting_for, with_waiter, without_ticket, woken, after_told}
+use Rattle.rw_waiting.specs.Listed.{Listed, nobody, waiting_for, with_waiter, without_ticket, after_told}
 use Rattle.rw_waiting.specs.Waitable.{Waitable}
 
 -- a call is made, a call begins to wait, or the call with this ticket gives up

@@ -4,15 +4,16 @@ ghost use Rattle.rw_broadcast.specs.Shown.{IsAllowed, next, patch_of, reply_of, 
 ghost use Rattle.rw_waiting.specs.Broadcasts.{told_after, told_by};
 ghost use Rattle.rw_handles.specs.Slots.{alive};
 ghost use Rattle.rw_waiting.specs.Listed.{after_told, woken};
+ghost use Rattle.rw_waiting.specs.Queue.{entries_of};
 ghost use Rattle.rw_waiting.specs.Told.{told_by_drop};
 
 use crate::notices::{Notice, WaitFor, told};
-use crate::queue::Entry;
 use crate::waiting::Waiting;
 use rw_broadcast::{BCall, BPatch, BReply, Broadcast};
 use rw_handles::Kind;
 use rw_law::Reversible;
 use std::alloc::Global;
+use std::collections::BTreeMap;
 
 /// Returns what the last call on a broadcast told those who wait, given its patch.
 pub fn told_on_broadcast<V: Copy>(channel: &Broadcast<V>, patch: &BPatch<V>) -> Option<WaitFor>
@@ -32,18 +33,19 @@ fn told_by_drop<V: Copy>(channel: &Broadcast<V>, kind: Kind) -> Option<WaitFor>
     told(Notice::Dropped(kind, channel.alive(kind)))
 }
 
-/// Makes a call on a broadcast, and takes those off the list whom it tells. Returns its reply, and what wakes them.
+/// Makes a call on a broadcast, and takes those off the list whom it tells. Returns its reply, and what wakes
+/// them, by their tickets.
 pub fn call_broadcast<V: Copy, W: Drop>(
     alloc: Global,
     channel: &mut Broadcast<V>,
     waiting: &mut Waiting<W>,
     call: &BCall<V>,
-) -> (BReply<V>, Vec<Entry<W>>)
+) -> (BReply<V>, BTreeMap<u64, W>)
     requires room { weight channel.old.shown < channel.old.limit }
     requires allowed { IsAllowed channel.old.shown }
     ensures shown { channel.new.shown ≡ next channel.old.shown call.now }
     ensures reply { result.0 ≡ reply_of channel.old.shown call.now }
-    ensures woken { result.1.items ≡ woken waiting.old (told_by channel.old.shown call.now) }
+    ensures woken { entries_of result.1.entries ≡ woken waiting.old (told_by channel.old.shown call.now) }
     ensures left { waiting.new ≡ after_told waiting.old (told_by channel.old.shown call.now) }
 {
     let (reply, patch) = channel.apply(call);

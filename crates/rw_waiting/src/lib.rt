@@ -5,7 +5,7 @@
 //! handle, for broadcasts and for watches.
 //! Start reading at `specs/Steps.antt`, which says so, with `specs/Waitable.antt`: what a channel has to say of those who wait for it.
 //! `specs/Broadcasts.antt` and `specs/Watches.antt` say it in the words of tokio's documentation. Then read `waiting.rt`.
-//! What stands on it: no crate: the queue of the Rust crate (`rust/`) is its own yet.
+//! What stands on it: the Rust crate (`rust/`).
 #![tactic(auto)]
 
 mod broadcasts;

@@ -1,10 +1,11 @@
 //! A queue from which items leave at any time, each by its number.
-ghost use Rattle.std.specs.Prelude.{◌≡◌, ◌<◌, ◌^◌, not, ◌==◌, true, false, [], length, IfOk, OnErr};
-ghost use Rattle.std.specs.List.{filter};
-ghost use Rattle.rw_waiting.specs.Queue.{empty, with_item, with_items, without};
+ghost use Rattle.std.specs.Prelude.{◌≡◌, ◌<◌, ◌^◌, ◌==◌, None, Some, true, [], length, IfOk, IfErr, OnOk, OnErr};
+ghost use Rattle.std.specs.Option.{option_copied};
+ghost use Rattle.rw_waiting.specs.Queue.{empty, entries_of, item_of, with_item, with_items, with_other, without};
 
 use rw_law::NoMemory;
 use std::alloc::Global;
+use std::collections::BTreeMap;
 use std::marker::Model;
 use std::mem;
 
@@ -18,16 +19,19 @@ pub struct Entry<T> {
 /// Items in the order in which they were added. Each gets the next number.
 #[derive(Drop)]
 pub struct Queue<T> {
-    entries: Vec<Entry<T>>,
+    // By their numbers, so in order.
+    items: BTreeMap<u64, T>,
     next: u64,
 }
 
 impl<T> Model for Queue<T> {
-    ghost use Rattle.rw_waiting.specs.Queue.{Queued};
+    ghost use Rattle.rw_waiting.specs.Queue.{AreNumbered, Queued, entries_of};
 
     ghost Value = { Queued T };
 
-    ghost view = { λ q. record { items = q.entries.items; next = q.next } };
+    ghost view = { λ q. record { items = entries_of q.items.entries; next = q.next } };
+
+    ghost invariant = { λ q. AreNumbered q.next q.items.entries };
 }
 
 impl<T: Drop> Queue<T> {
@@ -36,7 +40,7 @@ impl<T: Drop> Queue<T> {
         ensures { result ≡ empty }
     {
         Queue {
-            entries: Vec::new(alloc),
+            items: BTreeMap::new(alloc),
             next: 0,
         }
     }
@@ -45,7 +49,14 @@ impl<T: Drop> Queue<T> {
     pub fn is_empty(&self) -> bool
         ensures { result ≡ (length self.now.items == 0) }
     {
-        self.entries.is_empty()
+        self.items.len() == 0
+    }
+
+    /// Returns the item with this number, if it is here.
+    pub fn get(&self, number: u64) -> Option<&T>
+        ensures { option_copied result ≡ item_of self.now number }
+    {
+        self.items.get(&number)
     }
 
     /// Adds an item behind the others, and returns its number. If the allocation fails, nothing has changed, and the item is
@@ -57,37 +68,46 @@ impl<T: Drop> Queue<T> {
         ensures same { OnErr result (self.new ≡ self.old) }
     {
         let number = self.next;
-        self.entries.push(Entry { number, item })?;
+        self.items.insert(number, item)?;
         self.next = number + 1;
         Ok(number)
     }
 
-    /// Removes the item with this number, if it is here.
-    pub fn remove(&mut self, number: u64)
-        ensures { self.new ≡ without self.old number }
+    /// Puts another item in place of the one with this number, and returns that one. If it isn't here, nothing has changed, and the
+    /// other one comes back.
+    pub fn replace(&mut self, number: u64, other: T) -> Result<T, T>
+        ensures replaced { IfOk result (λ item. item_of self.old number ≡ Some item) }
+        ensures other { OnOk result (self.new ≡ with_other self.old number other) }
+        ensures absent { OnErr result (item_of self.old number ≡ None) }
+        ensures back { IfErr result (λ item. item ≡ other) }
+        ensures same { OnErr result (self.new ≡ self.old) }
     {
-        take_off(&mut self.entries, number)
+        match self.items.get_mut(&number) {
+            Some(item) => Ok(mem::replace(item, other)),
+            None => Err(other),
+        }
     }
 
-    /// Removes all items, and returns them in order.
-    pub fn remove_all(&mut self, alloc: Global) -> Vec<Entry<T>>
-        ensures removed { result.items ≡ self.old.items }
+    /// Removes the item with this number, if it is here, and returns it.
+    pub fn remove(&mut self, number: u64) -> Option<T>
+        ensures removed { result ≡ item_of self.old number }
+        ensures left { self.new ≡ without self.old number }
+    {
+        self.items.remove(&number)
+    }
+
+    /// Removes all items, and returns them by their numbers, so in order.
+    pub fn remove_all(&mut self, alloc: Global) -> BTreeMap<u64, T>
+        ensures removed { entries_of result.entries ≡ self.old.items }
         ensures left { self.new ≡ with_items self.old [] }
     {
-        mem::replace(&mut self.entries, Vec::new(alloc))
+        mem::replace(&mut self.items, BTreeMap::new(alloc))
     }
 
-    /// Returns the items in order.
-    pub fn entries(&self) -> &[Entry<T>]
-        ensures { result.now ≡ self.now.items }
+    /// Returns the items by their numbers, so in order.
+    pub fn items(&self) -> &BTreeMap<u64, T>
+        ensures { entries_of result.now.entries ≡ self.now.items }
     {
-        &self.entries
+        &self.items
     }
-}
-
-/// Removes the entry with this number, if it is here.
-fn take_off<T: Drop>(entries: &mut Vec<Entry<T>>, number: u64)
-    ensures { entries.new.items ≡ filter (λ e. not (e.number == number)) entries.old.items }
-{
-    entries.retain(|entry| entry.number != number)
 }

@@ -1,11 +1,14 @@
 //! The calls that wait for one channel.
-ghost use Rattle.std.specs.Prelude.{◌≡◌, ◌<◌, ◌^◌, ◌==◌, length, IfOk, OnErr};
-ghost use Rattle.rw_waiting.specs.Listed.{after_told, nobody, waiting_for, with_waiter, without_ticket, woken};
+ghost use Rattle.std.specs.Prelude.{◌≡◌, ◌<◌, ◌^◌, ◌==◌, None, Some, length, IfErr, IfOk, OnErr, OnOk};
+ghost use Rattle.std.specs.Option.{option_copied};
+ghost use Rattle.rw_waiting.specs.Listed.{after_told, nobody, waiting_for, with_queue, with_waiter, without_ticket, woken};
+ghost use Rattle.rw_waiting.specs.Queue.{entries_of, item_of, with_other};
 
 use crate::notices::WaitFor;
-use crate::queue::{Entry, Queue};
+use crate::queue::Queue;
 use rw_law::NoMemory;
 use std::alloc::Global;
+use std::collections::BTreeMap;
 use std::marker::Model;
 
 /// The calls that wait for a channel, each with what wakes it: a `W`. They are in the order in which they began to wait, and each has a
@@ -66,9 +69,33 @@ impl<W: Drop> Waiting<W> {
         }
     }
 
-    /// Takes the call with this ticket off the list, since it gives up or is done. If it doesn't wait, nothing changes.
-    pub fn leave(&mut self, what: WaitFor, ticket: u64)
-        ensures { self.new ≡ without_ticket self.old what ticket }
+    /// Returns what wakes the call with this ticket, if it waits.
+    pub fn waker(&self, what: WaitFor, ticket: u64) -> Option<&W>
+        ensures { option_copied result ≡ item_of (waiting_for self.now what) ticket }
+    {
+        self.queue(what).get(ticket)
+    }
+
+    /// Has the call with this ticket woken by something else from now on, and returns what woke it so far. It stays where it is. If it
+    /// doesn't wait, nothing has changed, and the other one comes back.
+    pub fn renew(&mut self, what: WaitFor, ticket: u64, waker: W) -> Result<W, W>
+        ensures before { IfOk result (λ before. item_of (waiting_for self.old what) ticket ≡ Some before) }
+        ensures renewed { OnOk result (self.new ≡ with_queue self.old what (with_other (waiting_for self.old what) ticket waker)) }
+        ensures absent { OnErr result (item_of (waiting_for self.old what) ticket ≡ None) }
+        ensures back { IfErr result (λ back. back ≡ waker) }
+        ensures same { OnErr result (self.new ≡ self.old) }
+    {
+        match what {
+            WaitFor::Value => self.for_value.replace(ticket, waker),
+            WaitFor::NoReceiver => self.for_no_receiver.replace(ticket, waker),
+        }
+    }
+
+    /// Takes the call with this ticket off the list, since it gives up or is done, and returns what would have woken it. If it doesn't
+    /// wait, nothing changes.
+    pub fn leave(&mut self, what: WaitFor, ticket: u64) -> Option<W>
+        ensures waker { result ≡ item_of (waiting_for self.old what) ticket }
+        ensures left { self.new ≡ without_ticket self.old what ticket }
     {
         match what {
             WaitFor::Value => self.for_value.remove(ticket),
@@ -76,13 +103,13 @@ impl<W: Drop> Waiting<W> {
         }
     }
 
-    /// Removes the calls that this wakes from the list, and returns what wakes them, in order.
-    pub fn woken(&mut self, alloc: Global, told: Option<WaitFor>) -> Vec<Entry<W>>
-        ensures woken { result.items ≡ woken self.old told }
+    /// Removes the calls that this wakes from the list, and returns what wakes them by their tickets, so in order.
+    pub fn woken(&mut self, alloc: Global, told: Option<WaitFor>) -> BTreeMap<u64, W>
+        ensures woken { entries_of result.entries ≡ woken self.old told }
         ensures left { self.new ≡ after_told self.old told }
     {
         match told {
-            None => Vec::new(alloc),
+            None => BTreeMap::new(alloc),
             Some(WaitFor::Value) => self.for_value.remove_all(alloc),
             Some(WaitFor::NoReceiver) => self.for_no_receiver.remove_all(alloc),
         }

@@ -4,15 +4,16 @@ ghost use Rattle.rw_watch.specs.Shown.{IsAllowed, next, patch_of, reply_of, weig
 ghost use Rattle.rw_waiting.specs.Watches.{told_after, told_by};
 ghost use Rattle.rw_handles.specs.Slots.{alive};
 ghost use Rattle.rw_waiting.specs.Listed.{after_told, woken};
+ghost use Rattle.rw_waiting.specs.Queue.{entries_of};
 ghost use Rattle.rw_waiting.specs.Told.{told_by_drop};
 
 use crate::notices::{Notice, WaitFor, told};
-use crate::queue::Entry;
 use crate::waiting::Waiting;
 use rw_handles::Kind;
 use rw_law::Reversible;
 use rw_watch::{WCall, WPatch, WReply, Watch};
 use std::alloc::Global;
+use std::collections::BTreeMap;
 
 /// Returns what the last call on a watch told those who wait, given its patch.
 pub fn told_on_watch<V: Copy>(channel: &Watch<V>, patch: &WPatch<V>) -> Option<WaitFor>
@@ -33,18 +34,19 @@ fn told_by_drop<V: Copy>(channel: &Watch<V>, kind: Kind) -> Option<WaitFor>
     told(Notice::Dropped(kind, channel.alive(kind)))
 }
 
-/// Makes a call on a watch, and takes those off the list whom it tells. Returns its reply, and what wakes them.
+/// Makes a call on a watch, and takes those off the list whom it tells. Returns its reply, and what wakes
+/// them, by their tickets.
 pub fn call_watch<V: Copy, W: Drop>(
     alloc: Global,
     channel: &mut Watch<V>,
     waiting: &mut Waiting<W>,
     call: &WCall<V>,
-) -> (WReply<V>, Vec<Entry<W>>)
+) -> (WReply<V>, BTreeMap<u64, W>)
     requires room { weight channel.old.shown < channel.old.limit }
     requires allowed { IsAllowed channel.old.shown }
     ensures shown { channel.new.shown ≡ next channel.old.shown call.now }
     ensures reply { result.0 ≡ reply_of channel.old.shown call.now }
-    ensures woken { result.1.items ≡ woken waiting.old (told_by channel.old.shown call.now) }
+    ensures woken { entries_of result.1.entries ≡ woken waiting.old (told_by channel.old.shown call.now) }
     ensures left { waiting.new ≡ after_told waiting.old (told_by channel.old.shown call.now) }
 {
     let (reply, patch) = channel.apply(call);

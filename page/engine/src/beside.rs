@@ -4,7 +4,7 @@
 use crate::part::{NONE, Part, word};
 use crate::run::account::against::{Against, DiffersBy, Listener};
 use crate::run::journal::Run;
-use crate::run::names::Names;
+use crate::run::sidecar::Sidecar;
 
 /// The calls of the run here by their places: their partners there, or 0, and by what each differs,
 /// or 0; the channels there by their numbers: which each is here, or `NONE`; and what the run there
@@ -20,7 +20,7 @@ impl Beside {
     /// Aligns two runs. Returns the lines of the difference, what the run there is called here, the
     /// partners, the kinds, the places here of the partners of the calls there, or 0, and the
     /// channels.
-    pub(crate) fn parts(here: (&Run, &Names), there: (&Run, &Names)) -> Vec<Part> {
+    pub(crate) fn parts(here: (&Run, &Sidecar), there: (&Run, &Sidecar)) -> Vec<Part> {
         let len = here.0.len() as usize + 1;
         let mut it = Beside {
             partners: vec![0; len],

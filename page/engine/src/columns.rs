@@ -3,14 +3,14 @@
 
 use crate::part::{NONE, Part, word};
 use crate::run::journal::{Run, RunEntry};
+use crate::run::operation::{Kind, Operation};
 use crate::run::reply::Reply;
-use crate::run::word::{Kind, Word};
 
 /// The mark of a call in the picture, by its reply, and in one case by its word. The page has a
 /// name for each number (`run/marks.js`).
-fn mark_of(word: Word, reply: Reply) -> u8 {
+fn mark_of(word: Operation, reply: Reply) -> u8 {
     match reply {
-        Reply::Value(_) if word == Word::Borrow => 0,
+        Reply::Value(_) if word == Operation::Borrow => 0,
         Reply::Sent(_) | Reply::Stored | Reply::Old(_) | Reply::Told(_) => 1,
         Reply::NoReceivers(_) => 2,
         Reply::Value(_) | Reply::Done => 3,

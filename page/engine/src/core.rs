@@ -6,6 +6,8 @@
 pub(crate) mod large_pages;
 #[path = "../../../rust/src/core/lists.rs"]
 pub(crate) mod lists;
+#[path = "../../../rust/ttd/src/refused.rs"]
+mod refused;
 #[path = "shim.rs"]
 pub(crate) mod shim;
 #[path = "../../../rust/ttd/src/standard_streams.rs"]

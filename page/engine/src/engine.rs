@@ -7,7 +7,7 @@ use crate::part::{Part, word, word_or_none};
 use crate::run::account::Account;
 use crate::run::debugger::Channel;
 use crate::run::journal::{self, Findings, FoundTraffic, Run, TextFault};
-use crate::run::names::Names;
+use crate::run::sidecar::Sidecar;
 use crate::search::{Wanted, hits};
 use crate::shim::alloc::Global;
 use crate::source::rw_answers::{Opened, debug_page, salvage_page, session_page};
@@ -52,7 +52,7 @@ pub struct Engine {
     opened: Option<Opened>,
     /// The machines at the place whose state was asked last.
     visitor: Option<Visitor<u64>>,
-    names: Names,
+    names: Sidecar,
     kept: Kept,
 }
 
@@ -98,7 +98,7 @@ impl Engine {
     ///
     /// Returns what is wrong with the text. The run has no names then.
     pub(crate) fn name(&mut self, text: &[u8]) -> Answer {
-        self.names = Names::default();
+        self.names = Sidecar::default();
         self.names = names_of(text)?;
         Ok(vec![])
     }
@@ -113,7 +113,7 @@ impl Engine {
     /// no run is open any more.
     fn on_run<R>(
         &mut self,
-        ask: impl FnOnce(&Run, &Names, &mut Kept) -> Result<R, Fault>,
+        ask: impl FnOnce(&Run, &Sidecar, &mut Kept) -> Result<R, Fault>,
     ) -> Result<R, Fault> {
         self.opened()?;
         let (run, paused) = self.opened.take().expect("a run is open").pause();
@@ -224,13 +224,13 @@ fn fault_of(journal: &[u8]) -> Result<Fault, Fault> {
     Ok(Fault(String::from_utf8_lossy(&line).trim_end().to_string()))
 }
 
-fn names_of(text: &[u8]) -> Result<Names, Fault> {
+fn names_of(text: &[u8]) -> Result<Sidecar, Fault> {
     if text.is_empty() {
-        return Ok(Names::default());
+        return Ok(Sidecar::default());
     }
     let text = std::str::from_utf8(text).map_err(|_| Fault("it is not UTF-8".to_string()))?;
     // The page has read the keys that it uses. A later writer may have others in another form.
-    Names::read_or(text, |key, fault| match key {
+    Sidecar::read_or(text, |key, fault| match key {
         "version" | "window" => Err(fault),
         _ => Ok(()),
     })

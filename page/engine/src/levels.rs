@@ -51,7 +51,7 @@ fn push_receiver(out: &mut Vec<u32>, receiver: [u32; 2], row: &[u64], count: u64
     }
 }
 
-/// Appends the spans of a row with so many stretches. Levels above `most` count as that.
+/// Appends the spans of a row with `count` stretches. Levels above `most` count as that.
 fn push_spans(out: &mut Vec<u32>, row: &[u64], count: u64, most: u64) {
     let (mut first, mut level) = (0, 0);
     for stretch in 0..=count {

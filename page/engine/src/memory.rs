@@ -11,7 +11,7 @@ static REFUSED: AtomicU32 = AtomicU32::new(0);
 
 struct Memory;
 
-/// From so many bytes on a block may stay where it is when it grows.
+/// From this number of bytes on, a block may stay where it is when it grows.
 const LARGE: usize = 1 << 20;
 
 /// Has std's allocator ask for more memory, which it keeps at the end. The last block can grow

@@ -2,9 +2,9 @@
 //! page says; whether a call or its reply has it is found here, in the words of the journal.
 
 use crate::run::journal::{Run, RunEntry};
-use crate::run::names::Names;
+use crate::run::operation::Operation;
 use crate::run::reply::Reply;
-use crate::run::word::Word;
+use crate::run::sidecar::Sidecar;
 use crate::source::rw_words::write_entry;
 
 /// The text in small letters, and which of the run's things have it in their names, by their
@@ -23,7 +23,7 @@ pub(crate) struct Wanted {
 }
 
 /// Returns the places of all calls behind the lead that have the text.
-pub(crate) fn hits(run: &Run, names: &Names, wanted: &Wanted) -> Vec<u32> {
+pub(crate) fn hits(run: &Run, names: &Sidecar, wanted: &Wanted) -> Vec<u32> {
     let mut search = Search {
         names,
         wanted,
@@ -43,7 +43,7 @@ pub(crate) fn hits(run: &Run, names: &Names, wanted: &Wanted) -> Vec<u32> {
 }
 
 struct Search<'a> {
-    names: &'a Names,
+    names: &'a Sidecar,
     wanted: &'a Wanted,
     /// The journal's line of an entry.
     line: [u8; 256],
@@ -132,8 +132,8 @@ fn parts_of(line: &[u8]) -> (&[u8], &[u8]) {
 }
 
 /// Returns the name of a call that waits, where the journal has the word of one that doesn't.
-fn waited(word: Word) -> Option<&'static str> {
-    matches!(word, Word::ReceiverCount | Word::Update).then(|| word.marked().method())
+fn waited(word: Operation) -> Option<&'static str> {
+    matches!(word, Operation::ReceiverCount | Operation::Update).then(|| word.marked().method())
 }
 
 /// Returns the value that a call sent or returned.

@@ -15,6 +15,8 @@ pub mod alloc;
 mod boxed;
 #[path = "../../../rust/src/core/shim/casts.rs"]
 mod casts;
+#[path = "../../../rust/src/core/shim/collections.rs"]
+pub mod collections;
 #[path = "../../../rust/src/core/shim/fallible.rs"]
 pub mod fallible;
 #[path = "../../../rust/src/core/shim/itoa.rs"]
@@ -39,7 +41,7 @@ pub mod sync;
 #[path = "../../../rust/ttd/src/shim/thread.rs"]
 pub mod thread;
 
-use super::{large_pages, standard_streams};
+use super::{large_pages, refused, standard_streams};
 
 pub use boxed::Box;
 pub use casts::saturated;

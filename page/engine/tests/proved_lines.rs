@@ -87,7 +87,7 @@ fn text(number: u32) -> String {
     }
 }
 
-/// The lines that these numbers stand for, so many to a line.
+/// The lines that these numbers stand for, `width` to a line.
 fn said(part: &Part, width: usize, line: impl Fn(&[String]) -> String) -> Vec<String> {
     words(part)
         .chunks(width)

@@ -16,6 +16,13 @@ export function countOf(number, one, many = `${one}s`) {
   return `${grouped(number)} ${number === 1 ? one : many}`;
 }
 
+// Which of several things one is, as `1st` or `22nd`.
+export function nth(number) {
+  const digits = String(number);
+  const end = /1[123]$/.test(digits) ? "th" : { 1: "st", 2: "nd", 3: "rd" }[digits.at(-1)] ?? "th";
+  return digits + end;
+}
+
 // Since when a call waits, by how many calls had been made.
 export function sinceText(place, lead = 0) {
   return place === lead && lead > 0 ? "before the window" : place === 0 ? "the start" : `call ${grouped(place)}`;

@@ -3,7 +3,7 @@
 import { CODE, NUMBERS } from "../base/palette.js";
 import { MARK_NAMES } from "../run/marks.js";
 import { countUpTo } from "../run/values.js";
-import { fitted } from "./canvas.js";
+import { fittedValue } from "./canvas.js";
 import { SHAPES } from "./shapes.js";
 
 const LARGEST = 4.6;
@@ -36,8 +36,7 @@ function drawSentValues(drawing) {
     const room = (ends.get(row) ?? frame.right) - x;
     ends.set(row, frame.middle(place) - VALUE_GAP);
     if (!VALUED.has(MARK_NAMES[mark]) || room < LEAST_VALUE) return;
-    const entry = run.entry(place);
-    pen.fillText(fitted(pen, run.names.value(entry.channel, entry.rest.split(" ")[0]), room), x, row.base - 5);
+    pen.fillText(fittedValue(pen, run, ...run.sentAt(place), room), x, row.base - 5);
   }, { isBack: true });
 }
 

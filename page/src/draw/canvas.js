@@ -49,6 +49,13 @@ export function fitted(pen, text, width) {
   return cutTo(least);
 }
 
+// Returns what a value is called in this width: shortly, if it has no text and the words for it don't fit.
+export function fittedValue(pen, run, channel, number, width, before = "") {
+  const [whole, short] = [run.names.value(channel, number), run.names.shortValue(channel, number)].map(words => before + words);
+  const shown = fitted(pen, whole, width);
+  return shown === whole || whole === short ? shown : fitted(pen, short, width);
+}
+
 // Fills a box with slanted lines.
 export function slanted(pen, { x, y, width, height, ground, colour, thickness = 1.4, step = 5 }) {
   if (width <= 0) return;

@@ -1,7 +1,7 @@
 // Draws the levels of receivers: what each has yet to read, or that it hasn't seen a watch's value.
 
 import { NUMBERS } from "../base/palette.js";
-import { fitted, line } from "./canvas.js";
+import { fittedValue, line } from "./canvas.js";
 import { BAND } from "./layout.js";
 
 const UNSEEN_HEIGHT = 15;
@@ -74,7 +74,7 @@ export function drawValues({ pen, run, frame, places, band, palette }) {
   changesOf(run, places, band.channel).forEach(({ place, value }, i, changes) => {
     const x = frame.x(place);
     const end = i + 1 < changes.length ? frame.x(changes[i + 1].place) : frame.right;
-    pen.fillText(fitted(pen, `= ${run.names.value(band.channel, value)}`, end - x - VALUE_GAP), x + VALUE_GAP, middle);
+    pen.fillText(fittedValue(pen, run, band.channel, value, end - x - VALUE_GAP, "= "), x + VALUE_GAP, middle);
     line(pen, x, row.y + 3, x, row.y + row.height - 3);
   });
 }

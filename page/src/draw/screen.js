@@ -3,12 +3,14 @@
 import { byId } from "../base/dom.js";
 import { readPalette } from "../base/palette.js";
 import { isTabbed } from "../base/tabs.js";
+import { Tasks } from "../run/tasks.js";
 import { cleared } from "./canvas.js";
 import { drawCursor } from "./cursor.js";
 import { Folds } from "./folds.js";
 import { Frame, gutterOf, stripGutterOf } from "./frame.js";
 import { ActorDots, Overview } from "./from_far.js";
 import { headY } from "./heads.js";
+import { Lanes } from "./lanes.js";
 import { HEAD, inSight, layOut, rowOfHandle, rowsOf } from "./layout.js";
 import { drawDiffering } from "./other_picture.js";
 import { AXIS_HEIGHT, drawAxis, drawPicture } from "./picture.js";
@@ -84,6 +86,8 @@ export class Screen {
       frame: new Frame(this.view.first, this.view.lastColumn, this.width, stripGutterOf(this.width), this.isNarrow && this.run.losses.all.length ? COUNTS : undefined),
     };
     this.drawStrip();
+    this.lanes = new Lanes(new Tasks(this.run), this.isNarrow);
+    this.lanes.stand();
     this.arrange();
   }
 
@@ -157,6 +161,7 @@ export class Screen {
     this.drawStripPlace(this.pen("strip-cursor", this.strip.height));
     drawAxis({ run, view, palette, frame, pen: this.pen("axis", AXIS_HEIGHT) });
     if (this.picture) this.drawRowsPlace(this.pen("cursor", this.picture.bottom - this.picture.top));
+    this.lanes.draw({ view, palette, frame });
   }
 
   drawStripPlace(pen) {
@@ -187,6 +192,7 @@ export class Screen {
       { height: strip.height, draw: both(pen => this.drawStripOn(pen), pen => this.drawStripPlace(pen)) },
       { height: AXIS_HEIGHT, draw: pen => drawAxis({ run, view, palette, frame, pen }) },
       ...(picture ? [{ height: picture.bottom - picture.top, draw: both(pen => this.drawRows(pen), pen => this.drawRowsPlace(pen)) }] : []),
+      ...(this.lanes.height > 0 ? [{ height: this.lanes.height, draw: pen => this.lanes.drawOn({ pen, view, palette, frame }) }] : []),
       ...(other ? [other.layer()] : []),
     ];
   }

@@ -2,11 +2,12 @@
 // place in the sources one into the editor. Beside that are the changes that a receiver of a watch never looked at, and what the channel of a call that
 // waits has at the end.
 
-import { byId, element, quoted } from "../base/dom.js";
+import { byId, element } from "../base/dom.js";
 import { countOf, grouped } from "../base/numbers.js";
 import { visible } from "../base/text.js";
 import { sourceLink } from "./source_links.js";
 import { unlookedBy } from "./unlooked.js";
+import { sentWords, valueWords } from "./value_words.js";
 
 // How many panics are shown, and how many characters of what one says.
 const MOST_ENDS = 3;
@@ -46,7 +47,7 @@ function lineOf(run, fact, text, index) {
 function unlookedLine(run, { channel, receiver, changes }) {
   const places = unlookedBy(run, channel, receiver);
   if (places.length !== changes) return [];
-  const listed = places.slice(0, MOST_CHANGES).flatMap((place, i) => [i ? ", " : "", quoted(run.valueSent(place))]);
+  const listed = places.slice(0, MOST_CHANGES).flatMap((place, i) => [i ? ", " : "", sentWords(run, place)]);
   const more = places.length - MOST_CHANGES;
   return [element("bdi", { class: "then" }, "  not looked at: ", ...listed, more > 0 ? ` and ${grouped(more)} more` : "")];
 }
@@ -81,7 +82,7 @@ function atTheEnd(run, { channel, handle }) {
   const state = run.ending.channels[channel];
   if (state === undefined) return [];
   const receiver = state.receivers.find(it => it.handle === handle);
-  const has = state.kind === "watch" ? ["has ", quoted(run.names.value(channel, state.value))]
+  const has = state.kind === "watch" ? ["has ", valueWords(run, channel, state.value)]
     : [receiver === undefined ? `has ${countOf(state.receivers.length, "receiver")}` : `has ${receiver.unread === 0 ? "nothing" : grouped(receiver.unread - receiver.lag)} to read`];
   const senders = state.senders.length === 0 ? "no sender" : countOf(state.senders.length, "sender");
   return [element("bdi", { class: "then" }, `    \`${visible(run.names.channel(channel))}\` `, ...has, ` and ${senders} at the end`)];
@@ -104,7 +105,17 @@ function endsPart(run) {
     return element("bdi", { class: "line" }, "  ", toPlace(place, place > run.lead ? `${word} after call ${place}` : `${word} at the ${place === 0 ? "start" : "window's beginning"}`, {}), ...who,
       ...(source ? [" at ", sourceLink(run, source)] : []), ...said);
   });
-  return lines.length > 0 ? [element("section", { class: "ends" }, element("b", {}, "the test failed:"), ...lines)] : [];
+  return lines.length > 0 ? [element("section", { class: "ends" }, element("b", {}, "how it ended:"), ...lines)] : [];
+}
+
+// How the test failed, as the report's line has it.
+function failedPart(run, { failed }) {
+  if (failed === null) return [];
+  return [element("bdi", { class: "line failed" }, toPlace(failed.place, "failed:", {}), ...withSource(run, ` ${failed.text}`, failed.location, " at "))];
+}
+
+function tasksPart({ tasks }) {
+  return tasks.length > 0 ? [element("section", { class: "tasks" }, ...tasks.map(({ text }) => element("bdi", { class: "line" }, visible(`waits: ${text}`))))] : [];
 }
 
 function summaryOf({ facts, unknown, waiting }) {
@@ -116,9 +127,11 @@ function accountParts(run, account) {
   return [
     ...(account.window ? [paragraph(visible(account.window.text))] : []),
     ...(account.unknown.length > 0 ? [paragraph(element("b", {}, "not all is known: "), visible(account.unknown.join("; ")))] : []),
+    ...failedPart(run, account),
     ...factParts(run, account),
     ...(account.nothing === null ? [] : [paragraph(visible(account.nothing))]),
     ...waitsPart(run, account),
+    ...tasksPart(account),
     ...endsPart(run),
   ];
 }

@@ -1,10 +1,11 @@
 // The loss at the place: which values were lost, since which send, by whom, and how it ended.
 
-import { element, outside, quoted } from "../base/dom.js";
+import { element, outside } from "../base/dom.js";
 import { countOf, grouped } from "../base/numbers.js";
 import { rowName } from "../draw/row_names.js";
 import { lastReceived } from "../run/losses.js";
 import { sourceLink } from "./source_links.js";
+import { sentWords } from "./value_words.js";
 
 const FEW = 6;
 const MOST = 500;
@@ -38,7 +39,7 @@ function cause(run, loss) {
   if (loss.from <= run.lead) return part("cause", "the overwriting began before the window");
   const { capacity } = run.channels[loss.channel];
   const { actor } = run.entry(loss.from);
-  return part("cause", toPlace(loss.from, "C"), " ", ...who(run, actor), ...sourceOf(run, loss.from), " sent ", quoted(run.valueSent(loss.from)),
+  return part("cause", toPlace(loss.from, "C"), " ", ...who(run, actor), ...sourceOf(run, loss.from), " sent ", sentWords(run, loss.from),
     `, one more than the ${grouped(capacity)} that are kept`);
 }
 
@@ -69,7 +70,7 @@ function end(run, loss) {
   if (loss.end === "open") return part("end", "the run ends, and nobody was told");
   const { actor } = run.entry(loss.to);
   const next = run.losses.firstOf(loss) + run.losses.countIn(loss);
-  const told = loss.end === "told" ? [` lagged by ${loss.lost}, and goes on with `, quoted(run.values.text(loss.channel, next))]
+  const told = loss.end === "told" ? [` lagged by ${loss.lost}, and goes on with `, sentWords(run, run.values.sendOf(loss.channel, next))]
     : [run.losses.isUnwound(loss) ? " dropped it after the test failed" : " dropped it: nobody was ever told"];
   return part("end", toPlace(loss.to, "E"), " ", ...who(run, actor), ...sourceOf(run, loss.to), ...told);
 }
@@ -93,5 +94,5 @@ export function lossCard(run, here, place, isAll) {
 export function lossPeek(run, [loss]) {
   const [first] = run.losses.valuesOf(loss, 1);
   return [element("b", {}, outside(run.titleOf(loss.channel, loss.receiver)), ` lost ${grouped(loss.lost)}`), ` · ${word(run, loss)} · `,
-    first === undefined ? "overwritten before the window" : quoted(first.text)];
+    first === undefined ? "overwritten before the window" : sentWords(run, first.sent)];
 }

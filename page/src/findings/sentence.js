@@ -1,11 +1,12 @@
 // The call that led to a place, in words.
 
-import { coloured, element, outside, quoted } from "../base/dom.js";
+import { coloured, element, outside } from "../base/dom.js";
 import { grouped } from "../base/numbers.js";
 import { actorColour } from "../base/palette.js";
 import { visible } from "../base/text.js";
 import { rowName } from "../draw/row_names.js";
 import { sourceLink } from "./source_links.js";
+import { sentWords, valueWords } from "./value_words.js";
 
 const FEW = 2;
 const MOST_NAMED = 2;
@@ -18,7 +19,7 @@ function closedMeaning(entry) {
 // The first texts of lost values, and how many more there are.
 function lostTexts(run, loss, count) {
   const { before = 0 } = loss;
-  const texts = run.losses.valuesOf(loss, Math.min(FEW, count - before)).flatMap(({ text }, i) => (i ? [", ", quoted(text)] : [quoted(text)]));
+  const texts = run.losses.valuesOf(loss, Math.min(FEW, count - before)).flatMap(({ sent }, i) => (i ? [", ", sentWords(run, sent)] : [sentWords(run, sent)]));
   if (before > 0) texts.unshift(`${grouped(before)} before the window${texts.length > 0 ? ", " : ""}`);
   return count - before > FEW ? [...texts, ` and ${grouped(count - before - FEW)} more`] : texts;
 }
@@ -44,8 +45,8 @@ function lossMeaning(entry, run, here) {
   const [loss] = lagging;
   const now = run.losses.lostAt(loss, entry.number);
   if (entry.reply !== "sent") return [lag(" · ", ...readers(run, [loss]), " has lost ", ...lostTexts(run, loss, now))];
-  const overwritten = run.values.text(loss.channel, run.losses.numberAt(loss, now));
-  return [lag(" overwrites ", quoted(overwritten), ", not read by ", ...readers(run, lagging))];
+  const overwritten = run.values.sendOf(loss.channel, run.losses.numberAt(loss, now));
+  return [lag(" overwrites ", sentWords(run, overwritten), ", not read by ", ...readers(run, lagging))];
 }
 
 // The number of the value that a call sends or gets, or an empty text.
@@ -53,7 +54,7 @@ function valueOf(entry) {
   return (entry.reply === "value" ? entry.answer : entry.rest).split(" ")[0];
 }
 
-// The text of the value that a call sends or gets, or null if it has none but its number.
+// What the value that a call sends or gets is called, or null if that is its number alone.
 export function textOf(entry, names) {
   const number = valueOf(entry);
   const text = number === "" ? "" : names.value(entry.channel, number);
@@ -67,8 +68,7 @@ export function linesOf(entry, names) {
 
 function meaning(entry, run) {
   if (entry.reply === "closed") return [element("span", { class: "unseen" }, ` (no sender is left${closedMeaning(entry)})`)];
-  const text = textOf(entry, run.names);
-  return text === null ? [] : [" ", quoted(text)];
+  return textOf(entry, run.names) === null ? [] : [" ", valueWords(run, entry.channel, valueOf(entry))];
 }
 
 export function callText(entry, run) {
@@ -105,11 +105,11 @@ export function atTheStart(run) {
 
 // A call in one short line, for a list, and where it stands in the sources. A value that has a text is shown by it alone.
 export function shortLine(entry, run) {
-  const text = textOf(entry, run.names);
+  const hasText = textOf(entry, run.names) !== null;
   const source = run.sourceOf(entry.number);
   const channel = run.channels.length > 1 ? `${entry.channel}: ` : "";
   const whole = `${callText(entry, run)} → ${replyText(entry, run)}`;
-  const call = text === null ? [`${channel}${whole}`] : [`${channel}${run.methodOf(entry)} ${run.numberOf(entry.channel, entry.handle)} `, quoted(text)];
+  const call = hasText ? [`${channel}${run.methodOf(entry)} ${run.numberOf(entry.channel, entry.handle)} `, valueWords(run, entry.channel, valueOf(entry))] : [`${channel}${whole}`];
   return [
     element("span", { title: [whole, run.timeOf(entry)].filter(it => it).join(", ") }, ...call),
     ...(source ? [element("small", { title: visible(`${source[0]}:${source[1]}`) }, outside(`${source[0]}:${source[1]}`))] : []),

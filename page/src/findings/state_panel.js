@@ -1,6 +1,7 @@
 // The state at the place, channel by channel, as text. The channel of the call comes first, then the calls around it, then the others.
 
 import { element, outside } from "../base/dom.js";
+import { isolated } from "../base/text.js";
 import { kindOf } from "../draw/heads.js";
 import { rowName } from "../draw/row_names.js";
 import { standingOf } from "../run/versions.js";
@@ -71,10 +72,11 @@ function row(name, ...children) {
   return element("div", {}, element("dt", {}, ...name), element("dd", {}, ...children));
 }
 
-function listed(handles, index, run) {
-  const numbers = handles.map(handle => run.numberOf(index, handle));
-  if (numbers.length <= MOST_HANDLES) return numbers.join(", ") || "none";
-  return `${numbers.slice(0, MOST_HANDLES).join(", ")} and ${numbers.length - MOST_HANDLES} more`;
+// Handles by their names, or by their kind and number: a number alone would read as how many they are.
+function listed(handles, kind, index, run) {
+  const called = handles.slice(0, MOST_HANDLES).map(handle => run.names.handle(index, handle) ?? `${kind} ${run.numberOf(index, handle)}`);
+  const more = handles.length > MOST_HANDLES ? ` and ${handles.length - MOST_HANDLES} more` : "";
+  return called.map(isolated).join(", ") + more || "none";
 }
 
 function handles(channel, index, run) {
@@ -82,8 +84,8 @@ function handles(channel, index, run) {
   const rows = receivers.map(receiver => row(rowName(run, index, run.lifeOf(index, receiver.handle)), ...standing(channel, index, receiver, run)));
   const left = channel.receivers.length - receivers.length;
   if (left) rows.push(row(["receivers"], `and ${left} more`));
-  rows.push(row(["senders"], listed(channel.senders, index, run)));
-  if (channel.weak) rows.push(row(["weak senders"], listed(channel.weak, index, run)));
+  rows.push(row(["senders"], listed(channel.senders, "sender", index, run)));
+  if (channel.weak) rows.push(row(["weak senders"], listed(channel.weak, "weak sender", index, run)));
   return element("dl", {}, ...rows);
 }
 

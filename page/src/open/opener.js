@@ -43,7 +43,7 @@ function beginningOf(text) {
   return made;
 }
 
-// How many entries a journal text has with so many heads, by its lines.
+// How many entries a journal text with `heads` heads has, by its lines.
 function entriesIn(text, heads) {
   let lines = 0;
   for (let i = 0; i < text.length; i++) if (text[i] === LINE_END) lines++;

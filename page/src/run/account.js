@@ -38,6 +38,14 @@ export function isAccount(value) {
   return hasLists && isObject(value.rest) && Number.isSafeInteger(value.rest.after) && isTextOrNull(value.rest.text) && isTextOrNull(value.nothing);
 }
 
+function isFailed(value) {
+  return isObject(value) && typeof value.text === "string" && Number.isSafeInteger(value.place) && isLocationOrNone(value.location);
+}
+
+function isTask(value) {
+  return isObject(value) && typeof value.text === "string";
+}
+
 // The place at which a run is opened: the one that is worth looking at first, or the start where nothing was found. A window starts with its first call
 // behind its lead.
 /** @param {Account | null} account */
@@ -48,9 +56,17 @@ export function firstPlace(account, lead = 0) {
   return facts.length > 0 || waiting.length > 0 || Number.isSafeInteger(failure) ? look : start;
 }
 
-// Returns an account, or null if it has a version that the page doesn't know.
+// Returns an account with the keys that it may lack: those that aren't told, or that accounts of earlier versions don't have.
+/** @returns {Account} */
+export function completed(account) {
+  return {
+    ...account, look: Number.isSafeInteger(account.look) ? account.look : 0,
+    failed: isFailed(account.failed) ? account.failed : null, tasks: Array.isArray(account.tasks) ? account.tasks.filter(isTask) : [],
+  };
+}
+
+// The same, or null if it has a version that the page doesn't know.
 /** @returns {Account | null} */
 export function known(account) {
-  if (account?.version !== VERSION) return null;
-  return { ...account, look: Number.isSafeInteger(account.look) ? account.look : 0 };
+  return account?.version === VERSION ? completed(account) : null;
 }

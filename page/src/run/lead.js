@@ -40,7 +40,7 @@ function duration(microseconds) {
   return `${Math.floor(microseconds / of)} ${name}`;
 }
 
-// The number that is so many parts of the way from the first to the second one.
+// The number that is `part` of `whole` parts of the way from `from` to `to`.
 function between(from, to, part, whole) {
   return whole === 0 ? from : from + Number(BigInt(to - from) * BigInt(part) / BigInt(whole));
 }

@@ -140,7 +140,7 @@ export class Losses {
     return Math.min(lost, this.run.values.overwrittenUpTo(channel, place) - this.firstOf(loss) + before - here);
   }
 
-  // The number of the value of a loss that was overwritten at a place, where so many were lost by then.
+  // The number of the value of a loss that was overwritten at a place, where `now` were lost by then.
   numberAt(loss, now) {
     const { before = 0, here = 0 } = loss;
     return this.firstOf(loss) + now - before + here - 1;

@@ -1,8 +1,10 @@
 // Names of actors, channels and handles, texts of values, and places in sources: from a file of names if there is one, else numbers. What hides
 // in them is written out. Such a file may also have a note on the core that answered the calls, and the calls that waited when it was written.
 
+import { nth } from "../base/numbers.js";
 import { visible, visibleLines } from "../base/text.js";
 import { isAccount, known } from "./account.js";
+import { areTasks } from "./tasks.js";
 
 const NEWEST = 5;
 
@@ -66,6 +68,7 @@ const KEYS = {
   window: [isWindow, "its window has no \"reason\", \"at\", \"lead\" and \"channels\""],
   times: [value => isList(value, isTime), "its times are no lists of a stamp and two times"],
   journal: [isText, "its checksum of the journal is no text"],
+  tasks_seen: [areTasks, "its key \"tasks_seen\" has no \"places\", and \"tasks\" with \"polls\""],
   account: [isAccount, "its key \"account\" has no \"facts\" with \"text\" and \"places\""],
 };
 
@@ -109,16 +112,23 @@ function named(table, number, otherwise) {
   return visible(lookUp(table, number) ?? otherwise);
 }
 
+// A value may have a number that the browser's own would round.
+function ordinal(number) {
+  return nth(BigInt(number) + 1n);
+}
+
 export class Names {
   /** @param {any} tables */
   constructor(tables = {}) {
     // The text that the engine reads them from, which is empty where there is none.
     this.bytes = NO_BYTES;
     const { core = "", actors = {}, channels = {}, values = {}, handles = {}, locations = [], made = {}, calls = {}, tasks = {} } = tables;
-    const { waiting = [], journal = null, root = null, window = null, times = [] } = tables;
+    const { waiting = [], journal = null, root = null, window = null, times = [], tasks_seen: tasksSeen = null } = tables;
     // Why the run begins in a window, and what was before it; and when some of its calls were made.
     this.window = window;
     this.times = times;
+    // What was seen of the test's tasks.
+    this.tasksSeen = tasksSeen;
     this.tables = { actors, channels, values, handles, locations, made, calls, tasks };
     this.core = visible(core);
     /** @type {Account | null} what was found in the run, in words */
@@ -157,13 +167,24 @@ export class Names {
     return found && visible(found);
   }
 
+  // A value by its text, or by what it is called without one.
   value(channel, number) {
-    return named(lookUp(this.tables.values, channel), number, String(number));
+    return named(lookUp(this.tables.values, channel), number, this.isOrdinal(channel, number) ? `its ${ordinal(number)} value` : String(number));
+  }
+
+  // The same where there is little room.
+  shortValue(channel, number) {
+    return this.isOrdinal(channel, number) ? ordinal(number) : this.value(channel, number);
+  }
+
+  // Whether a value is called by which of its channel's it is. The crate numbers those from 0; in other journals a number is the value.
+  isOrdinal(channel, number) {
+    return this.journal !== null && lookUp(lookUp(this.tables.values, channel), number) === undefined;
   }
 
   // The same with its lines below each other.
   valueLines(channel, number) {
-    return visibleLines(lookUp(lookUp(this.tables.values, channel), number) ?? String(number));
+    return visibleLines(lookUp(lookUp(this.tables.values, channel), number) ?? this.value(channel, number));
   }
 
   // A place in the sources by its number, as `src/bus.rs:15`, or undefined.

@@ -3,7 +3,7 @@
 
 // Of the calls here, as many as can be whose partners there are in the same order too. `partners` has by place here that of the partner, or 0.
 export function anchorsOf(partners) {
-  // By length, the place here at which the best row of so many ends; and for each place the one before it in its row.
+  // By length, the place here at which the best row of that length ends; and for each place the one before it in its row.
   const ends = [];
   const before = new Map();
   for (let place = 1; place < partners.length; place++) {

@@ -1,6 +1,7 @@
 // An opened run: its entries, and the states that are loaded.
 
 import { isolated } from "../base/text.js";
+import { completed } from "./account.js";
 import { Actors } from "./actors.js";
 import { placeUpTo, readEntry } from "./entries.js";
 import { behindLead, lostBefore, numberOf, timeOf, windowOf } from "./lead.js";
@@ -242,10 +243,16 @@ export class Run {
     return placeUpTo(stamp, this.lead, this.lastPlace, place => this.entry(place));
   }
 
-  // The text of the value that was sent at a place.
-  valueSent(place) {
+  // The channel and the number of the value that was sent at a place.
+  /** @returns {[number, string]} */
+  sentAt(place) {
     const { channel, rest } = this.entry(place);
-    return this.names.value(channel, rest.split(" ")[0]);
+    return [channel, rest.split(" ")[0]];
+  }
+
+  // The text of that value.
+  valueSent(place) {
+    return this.names.value(...this.sentAt(place));
   }
 
   // An entry's line, as the console writes it.
@@ -301,7 +308,7 @@ export class Run {
   async findAccount() {
     const { names } = this;
     if (this.account !== null) return;
-    const made = await this.askNamed("account");
+    const made = completed(await this.askNamed("account"));
     if (this.waiting) made.waiting.push({ text: `${names.actor(this.waiting.actor)} would wait in line ${this.waiting.line}: ${this.waiting.text}`, since: this.lastPlace });
     if (this.names === names) this.account = made;
   }

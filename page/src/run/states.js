@@ -64,7 +64,7 @@ class Reader {
   }
 }
 
-// Reads the states of a run that has so many channels and calls.
+// Reads the states of a run that has `count` channels and `len` calls.
 /** @returns {RunState[]} */
 export function readStates(numbers, count, len) {
   const reader = new Reader(numbers);

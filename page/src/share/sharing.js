@@ -26,11 +26,12 @@ export function copyCommands(walk) {
 // What the account says, as the lines of a text.
 function accountLines(account) {
   if (account === null) return ["what was found is being counted"];
-  const { window, unknown, facts, rest, nothing, waiting } = account;
+  const { window, unknown, failed, facts, rest, nothing, waiting, tasks } = account;
   return [
     ...(window ? [window.text] : []),
-    ...(unknown.length > 0 ? [`not all is known: ${unknown.join("; ")}`] : []), ...facts.slice(0, rest.after).flatMap(({ text }) => text),
+    ...(unknown.length > 0 ? [`not all is known: ${unknown.join("; ")}`] : []), ...(failed ? [`failed: ${failed.text}`] : []), ...facts.slice(0, rest.after).flatMap(({ text }) => text),
     ...[rest.text, nothing].filter(line => line !== null), ...waiting.map(({ text }) => `still waiting: ${text}`),
+    ...tasks.map(({ text }) => `waits: ${text}`),
   ].map(visible);
 }
 

@@ -1,4 +1,4 @@
-// What the engine finds in the opened run, as the page holds it. Each list of numbers has so many for each thing that is found.
+// What the engine finds in the opened run, as the page holds it. Each list of numbers has a fixed number of them for each thing that is found.
 
 const END = ["told", "dropped", "open"];
 
@@ -30,7 +30,7 @@ export function lossesOf(engine, lastPlace) {
   }));
 }
 
-// Returns all else that is found in the run, which has so many channels.
+// Returns all else that is found in the run, which has `count` channels.
 export function foundIn(engine, count) {
   const [closings, late, broadcasts, watches, handles, callers, sends, overwritten, ends] = engine.ofRun("found");
   return {
@@ -38,7 +38,7 @@ export function foundIn(engine, count) {
   };
 }
 
-// The place from which on each of so many channels is closed, or null, and where each receiver that was there then was told so, or null, and how many
+// The place from which on each of `count` channels is closed, or null, and where each receiver that was there then was told so, or null, and how many
 // values it received from then on.
 /** @returns {Closings} */
 function closingsOf(count, closings, late) {

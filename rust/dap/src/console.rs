@@ -1,7 +1,7 @@
 //! What is typed or watched: the commands of the console of `ttd`, and expressions.
 
 use crate::arguments::Arguments;
-use crate::expression::{Expression, Thing, thing_of};
+use crate::expression::{Entity, Expression, thing_of};
 use crate::moves::Debuggee;
 use crate::shown::text_of;
 use crate::variables::Group;
@@ -57,14 +57,14 @@ impl Debuggee {
         Ok(json!({"result": value.to_string(), "variablesReference": 0}))
     }
 
-    fn shown_thing(&mut self, thing: Thing, at: u32) -> Value {
+    fn shown_thing(&mut self, thing: Entity, at: u32) -> Value {
         let text = text_of(thing, &self.recording);
         let group = match thing {
-            Thing::Channel(channel) => self.numbered_group(Group::Channel(channel, at)),
-            Thing::Receiver(channel, handle) => {
+            Entity::Channel(channel) => self.numbered_group(Group::Channel(channel, at)),
+            Entity::Receiver(channel, handle) => {
                 self.numbered_group(Group::Receiver(channel, handle, at))
             }
-            Thing::Actor(_) => 0,
+            Entity::Actor(_) => 0,
         };
         json!({"result": text, "variablesReference": group})
     }

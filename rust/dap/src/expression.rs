@@ -10,7 +10,7 @@ use std::cmp::Ordering;
 use std::fmt;
 use yovanelum::debugger::{Channel, Walk};
 
-pub(crate) use yovanelum::debugger::recorded::Thing;
+pub(crate) use yovanelum::debugger::recorded::Entity;
 
 /// How many bytes an expression has at most. A longer one could be nested deeper than the stack is.
 const LONGEST: usize = 4096;
@@ -76,7 +76,7 @@ pub(crate) enum Operand {
     Actor,
     Call,
     Reply,
-    Of(Thing, Field),
+    Of(Entity, Field),
 }
 
 /// How two values are compared.
@@ -99,7 +99,7 @@ pub(crate) enum Expression {
     Both(Box<Expression>, Box<Expression>),
     Either(Box<Expression>, Box<Expression>),
     /// The call of the place is of this actor, or on this channel.
-    Is(Thing),
+    Is(Entity),
     /// The first word of the reply.
     Replies(String),
 }
@@ -148,12 +148,12 @@ impl Expression {
 }
 
 /// Whether the call of the walk's place is of this actor, on this channel, or by this receiver.
-fn is_of(thing: Thing, recording: &Recording) -> bool {
+fn is_of(thing: Entity, recording: &Recording) -> bool {
     let walk = recording.walk();
     walk.entry(walk.place()).is_some_and(|entry| match thing {
-        Thing::Actor(actor) => entry.actor() == actor,
-        Thing::Channel(channel) => entry.channel() == channel,
-        Thing::Receiver(channel, handle) => entry.channel() == channel && entry.handle() == handle,
+        Entity::Actor(actor) => entry.actor() == actor,
+        Entity::Channel(channel) => entry.channel() == channel,
+        Entity::Receiver(channel, handle) => entry.channel() == channel && entry.handle() == handle,
     })
 }
 
@@ -168,7 +168,7 @@ impl Operand {
             Operand::Actor => Value::Text(names.actor(entry()?.actor())),
             Operand::Call => Value::Text(names.call(place, &entry()?)),
             Operand::Reply => Value::Text(names.reply(&entry()?)),
-            Operand::Of(Thing::Channel(channel), Field::Current) => {
+            Operand::Of(Entity::Channel(channel), Field::Current) => {
                 let Channel::Watch(watch) = walk.channel(*channel)? else {
                     return None;
                 };
@@ -183,11 +183,11 @@ impl Operand {
 }
 
 /// Returns a field of a thing at the walk's place, if it has it.
-pub(crate) fn field_of(walk: &Walk, thing: Thing, field: Field) -> Option<Value> {
+pub(crate) fn field_of(walk: &Walk, thing: Entity, field: Field) -> Option<Value> {
     match thing {
-        Thing::Receiver(channel, handle) => of_receiver(&walk.channel(channel)?, handle, field),
-        Thing::Channel(channel) => of_channel(&walk.channel(channel)?, field),
-        Thing::Actor(_) => None,
+        Entity::Receiver(channel, handle) => of_receiver(&walk.channel(channel)?, handle, field),
+        Entity::Channel(channel) => of_channel(&walk.channel(channel)?, field),
+        Entity::Actor(_) => None,
     }
 }
 
@@ -268,7 +268,7 @@ impl fmt::Display for Value {
 
 /// Returns what a name stands for: a receiver, a channel, or an actor; or `channel0`, or the
 /// receiver of a number as `orders.receiver1`.
-pub(crate) fn thing_of(name: &str, recording: &Recording) -> Option<Thing> {
+pub(crate) fn thing_of(name: &str, recording: &Recording) -> Option<Entity> {
     recording.things.find(name)
 }
 

@@ -24,6 +24,7 @@ mod shown;
 mod sources;
 mod state_json;
 mod targets;
+mod tasks;
 mod texts;
 mod variables;
 mod watched;

@@ -2,10 +2,11 @@
 
 use crate::journal::Journal;
 use crate::sources::Sources;
+use crate::tasks::SeenTasks;
 use crate::{Answer, Refusal};
 use serde_json::Value;
 use std::collections::{BTreeMap, BTreeSet};
-use yovanelum::debugger::recorded::{Opened, Recorded, Things};
+use yovanelum::debugger::recorded::{Entities, Opened, Recorded};
 use yovanelum::debugger::{Entry, Walk};
 
 /// A sorted list of places.
@@ -48,10 +49,11 @@ pub(crate) struct Recording {
     pub(crate) facts: Vec<Fact>,
     pub(crate) losses: Vec<Loss>,
     pub(crate) waits: Vec<WaitAtEnd>,
+    pub(crate) tasks: SeenTasks,
     /// Each receiver that was created, as channel and handle.
     pub(crate) receivers: BTreeSet<(u32, u32)>,
     /// What the names of receivers, channels and actors stand for.
-    pub(crate) things: Things,
+    pub(crate) things: Entities,
     of_actor: BTreeMap<u32, Places>,
     // By index into the locations.
     of_location: Vec<Places>,
@@ -79,19 +81,21 @@ impl Recording {
         let fault = opened.names_fault.as_ref();
         let names = journal.names_path.display();
         warnings.extend(fault.map(|fault| format!("{names} is left out: {fault}")));
-        let mut recording = Recording::of(opened.walk, opened.recorded, sources);
+        let tasks = SeenTasks::read(journal.names.as_deref().filter(|_| fault.is_none()));
+        let mut recording = Recording::of(opened.walk, opened.recorded, tasks, sources);
         warnings.extend(recording.sources.faults(&recording.names));
         Ok((recording, warnings))
     }
 
-    fn of(walk: Walk, names: Recorded, sources: Sources) -> Recording {
+    fn of(walk: Walk, names: Recorded, tasks: SeenTasks, sources: Sources) -> Recording {
         let account: Value = serde_json::from_str(names.account()).unwrap_or(Value::Null);
         let mut recording = Recording {
             facts: facts_in(&account),
             losses: losses_in(&account),
             waits: waits_in(&account),
+            tasks,
             receivers: (0..walk.channels()).map(|channel| (channel, 1)).collect(),
-            things: Things::default(),
+            things: Entities::default(),
             of_actor: BTreeMap::new(),
             of_location: vec![vec![]; names.locations().len()],
             locations: Vec::with_capacity(walk.len() as usize),
@@ -102,7 +106,7 @@ impl Recording {
         recording.index();
         let (receivers, actors) = (&recording.receivers, recording.of_actor.keys());
         let (receivers, actors) = (receivers.iter().copied(), actors.copied());
-        recording.things = Things::of(&recording.walk, &recording.names, receivers, actors);
+        recording.things = Entities::of(&recording.walk, &recording.names, receivers, actors);
         recording
     }
 

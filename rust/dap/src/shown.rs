@@ -1,7 +1,7 @@
 //! Threads, frames, scopes, and what was found at a place.
 
 use crate::arguments::Arguments;
-use crate::expression::Thing;
+use crate::expression::Entity;
 use crate::moves::{Debuggee, thread_of};
 use crate::recording::Recording;
 use crate::variables::Group;
@@ -211,6 +211,10 @@ impl Debuggee {
             );
             scopes.push(json!({"name": name, "presentationHint": "locals", "variablesReference": group, "expensive": false}));
         }
+        if let Some(task) = call.and_then(|call| self.task_of(call)) {
+            let group = self.numbered_group(Group::Task(task, at));
+            scopes.push(json!({"name": "Task", "variablesReference": group, "expensive": false}));
+        }
         if at == self.recording.len() && !self.recording.waits.is_empty() {
             let group = self.numbered_group(Group::Waits);
             scopes.push(
@@ -222,6 +226,12 @@ impl Debuggee {
             json!({"name": "What was found", "variablesReference": group, "expensive": true}),
         );
         Ok(json!({"scopes": scopes}))
+    }
+
+    /// Returns the task that made a call, if it was seen.
+    fn task_of(&self, call: u32) -> Option<usize> {
+        let entry = self.recording.entry(call)?;
+        self.recording.tasks.task_of(entry.actor(), entry.stamp())
     }
 
     /// Returns what goes wrong at the place, in the words of the report.
@@ -273,12 +283,12 @@ impl Debuggee {
 }
 
 /// Returns what a receiver or a channel is at the walk's place, on one line.
-pub(crate) fn text_of(thing: Thing, recording: &Recording) -> String {
+pub(crate) fn text_of(thing: Entity, recording: &Recording) -> String {
     let walk = recording.walk();
     let gone = || "not there".to_string();
     match thing {
-        Thing::Actor(actor) => recording.names.actor(actor),
-        Thing::Channel(channel) => match walk.channel(channel) {
+        Entity::Actor(actor) => recording.names.actor(actor),
+        Entity::Channel(channel) => match walk.channel(channel) {
             Some(Channel::Broadcast(it)) => {
                 format!("broadcast, queued {} of {}", it.queued(), it.capacity())
             }
@@ -287,7 +297,7 @@ pub(crate) fn text_of(thing: Thing, recording: &Recording) -> String {
             }
             None => gone(),
         },
-        Thing::Receiver(channel, handle) => match walk.channel(channel) {
+        Entity::Receiver(channel, handle) => match walk.channel(channel) {
             Some(Channel::Broadcast(it)) => it.receiver(handle).map_or_else(gone, |it| {
                 let lag = recording.names.lag(channel, handle, it.lag);
                 format!("unread {}, lag {lag}", it.unread - it.lag + lag)

@@ -1,8 +1,9 @@
 //! Groups of variables: a call, a channel, its window, its receivers, a receiver.
 
 use crate::arguments::Arguments;
-use crate::expression::{Field, Thing, field_of, thing_of};
+use crate::expression::{Entity, Field, field_of, thing_of};
 use crate::moves::Debuggee;
+use crate::recording::Recording;
 use crate::shown::text_of;
 use crate::{Answer, Refusal};
 use serde_json::{Value, json};
@@ -24,6 +25,8 @@ pub(crate) enum Group {
     Receiver(u32, u32, u32),
     /// The retained values that a receiver has yet to receive.
     Unread(u32, u32, u32),
+    /// What a task did, by its index.
+    Task(usize, u32),
     Waits,
     Found,
 }
@@ -42,7 +45,7 @@ impl Range {
     }
 }
 
-fn variable(name: impl Into<Value>, value: impl Into<String>) -> Value {
+pub(crate) fn variable(name: impl Into<Value>, value: impl Into<String>) -> Value {
     json!({"name": name.into(), "value": value.into(), "variablesReference": 0})
 }
 
@@ -61,6 +64,10 @@ impl Debuggee {
             Group::Receivers(channel, at) => self.receivers(channel, at, range),
             Group::Receiver(channel, handle, at) => self.of_receiver(channel, handle, at),
             Group::Unread(channel, handle, at) => self.of_unread(channel, handle, at, range),
+            Group::Task(task, at) => {
+                let Recording { tasks, names, .. } = &self.recording;
+                tasks.variables(task, at, self.recording.walk(), names)
+            }
             Group::Waits => self.waits(),
             Group::Found => self.found(range),
         };
@@ -125,7 +132,7 @@ impl Debuggee {
         variables.extend(self.contents(channel, at));
         variables.extend(self.senders(channel));
         let name = self.recording.names.channel(channel);
-        variables.push(self.named_field(&name, Thing::Channel(channel), Field::Closed));
+        variables.push(self.named_field(&name, Entity::Channel(channel), Field::Closed));
         variables
     }
 
@@ -153,7 +160,7 @@ impl Debuggee {
     /// Returns the values and numbers of a channel, where the walk is at the place.
     fn contents(&mut self, channel: u32, at: u32) -> Vec<Value> {
         let (thing, name) = (
-            Thing::Channel(channel),
+            Entity::Channel(channel),
             self.recording.names.channel(channel),
         );
         match self.recording.walk().channel(channel) {
@@ -183,7 +190,7 @@ impl Debuggee {
     }
 
     /// Returns a field of a thing, with the expression that an editor can watch.
-    fn named_field(&self, owner: &str, thing: Thing, field: Field) -> Value {
+    fn named_field(&self, owner: &str, thing: Entity, field: Field) -> Value {
         let value = field_of(self.recording.walk(), thing, field);
         let mut shown = variable(
             field.name(),
@@ -196,7 +203,7 @@ impl Debuggee {
     }
 
     /// Returns the expression for a thing: its name, if no other has that, or else its numbers.
-    fn expression_of(&self, name: &str, thing: Thing) -> Option<String> {
+    fn expression_of(&self, name: &str, thing: Entity) -> Option<String> {
         let is_word = !name.is_empty()
             && name
                 .chars()
@@ -209,12 +216,12 @@ impl Debuggee {
             });
         }
         match thing {
-            Thing::Channel(channel) => Some(format!("channel{channel}")),
-            Thing::Receiver(channel, handle) => {
+            Entity::Channel(channel) => Some(format!("channel{channel}")),
+            Entity::Receiver(channel, handle) => {
                 let number = self.recording.things.number_of(channel, handle);
                 Some(format!("channel{channel}.receiver{number}"))
             }
-            Thing::Actor(_) => None,
+            Entity::Actor(_) => None,
         }
     }
 
@@ -227,7 +234,7 @@ impl Debuggee {
             .map(|(_, handle)| handle)
             .collect();
         let receivers = handles.into_iter().map(|handle| {
-            let thing = Thing::Receiver(channel, handle);
+            let thing = Entity::Receiver(channel, handle);
             let name = self.recording.names.receiver(channel, handle);
             let mut shown = variable(name.as_str(), text_of(thing, &self.recording));
             shown["variablesReference"] = self
@@ -246,7 +253,7 @@ impl Debuggee {
 
     fn of_receiver(&mut self, channel: u32, handle: u32, at: u32) -> Vec<Value> {
         let name = self.recording.names.receiver(channel, handle);
-        let thing = Thing::Receiver(channel, handle);
+        let thing = Entity::Receiver(channel, handle);
         let Some(shown) = self.recording.at(at).channel(channel) else {
             return vec![];
         };

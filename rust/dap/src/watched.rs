@@ -2,7 +2,7 @@
 
 use crate::Answer;
 use crate::arguments::Arguments;
-use crate::expression::{Thing, thing_of};
+use crate::expression::{Entity, thing_of};
 use crate::moves::Debuggee;
 use crate::variables::Group;
 use serde_json::json;
@@ -16,16 +16,16 @@ impl Debuggee {
         let owner = group.map(|id| self.group_of(id)).transpose()?;
         let (thing, field) = match owner {
             Some(Group::Channel(channel, _)) => match self.receiver_named(channel, name) {
-                Some(handle) => (Some(Thing::Receiver(channel, handle)), "lag"),
-                None => (Some(Thing::Channel(channel)), name),
+                Some(handle) => (Some(Entity::Receiver(channel, handle)), "lag"),
+                None => (Some(Entity::Channel(channel)), name),
             },
             Some(Group::Receivers(channel, _)) => (
                 self.receiver_named(channel, name)
-                    .map(|handle| Thing::Receiver(channel, handle)),
+                    .map(|handle| Entity::Receiver(channel, handle)),
                 "lag",
             ),
             Some(Group::Receiver(channel, handle, _)) => {
-                (Some(Thing::Receiver(channel, handle)), name)
+                (Some(Entity::Receiver(channel, handle)), name)
             }
             _ => match name.rsplit_once('.') {
                 Some((owner, field)) => (thing_of(owner.trim_matches('`'), &self.recording), field),
@@ -52,11 +52,11 @@ impl Debuggee {
     }
 
     /// Returns the condition for a field, and what it says.
-    fn watched(&self, thing: Thing, field: &str) -> Option<(String, String)> {
+    fn watched(&self, thing: Entity, field: &str) -> Option<(String, String)> {
         match thing {
-            Thing::Receiver(channel, handle) => self.watched_receiver(channel, handle, field),
-            Thing::Channel(channel) => self.watched_channel(channel, field),
-            Thing::Actor(_) => None,
+            Entity::Receiver(channel, handle) => self.watched_receiver(channel, handle, field),
+            Entity::Channel(channel) => self.watched_channel(channel, field),
+            Entity::Actor(_) => None,
         }
     }
 

@@ -124,7 +124,7 @@ impl Program {
         fs::read_to_string(path).unwrap_or_else(|_| said(&ran.unwrap()))
     }
 
-    /// The same command, which is ended after so many seconds.
+    /// The same command, which is ended after `seconds` seconds.
     fn command_that_ends(&self, seconds: u32) -> Command {
         let mut command = Command::new("timeout");
         let program = self.command();
@@ -209,7 +209,7 @@ fn assert_brought_back(name: &'static str, lines: &[&str], times: u64) {
     );
 }
 
-/// Asserts that no order of this program fails, in so many runs.
+/// Asserts that no order of this program fails, in `runs` runs.
 fn assert_right_in(runs: u64, name: &'static str, lines: &[&str]) {
     let program = Program::new(name);
     let (passes, said, json) = program.explored(runs, "0");
@@ -410,7 +410,8 @@ fn time_never_passes_where_it_may_not() {
 
 #[test]
 fn no_run_begins_later_than_it_may() {
-    let program = Program::new("double_claim");
+    // The test passes by itself, as it runs once more behind the exploring.
+    let program = Program::new("socket");
     let ran = program
         .command()
         .env("YOVANELUM_EXPLORE", "1000000")
@@ -420,7 +421,7 @@ fn no_run_begins_later_than_it_may() {
     let said = said(&ran);
     assert!(ran.status.success(), "{said}");
     assert!(
-        said.contains("explored double_claim: all 0 runs passed"),
+        said.contains("explored socket: all 0 runs passed"),
         "{said}"
     );
 }

@@ -7,6 +7,7 @@ mod caller;
 mod explored;
 mod holders;
 mod identity;
+mod last_caller;
 mod named;
 mod origin;
 mod own;
@@ -14,22 +15,24 @@ mod spawned;
 
 pub use caller::set_task_id;
 pub(crate) use caller::{
-    CallerNumber, current, current_task, forget_last_recorder, has_called, is_current_caller,
-    is_dropping_future, last_recorder, name_of_blocked, name_of_caller, name_of_future,
-    name_of_task, name_of_thread_alone, number_of_caller, write_caller,
+    CallerNumber, current, current_task, forget_last_recorder, has_called, is_dropping_future,
+    last_recorder, name_of_blocked, name_of_caller, name_of_future, name_of_sharing, name_of_task,
+    name_of_thread_alone, number_of_caller, own_number, write_caller,
 };
 pub(crate) use explored::{is_in_task, is_over_facade, last_task, set_last_task};
 pub(crate) use holders::Unused;
 pub(crate) use identity::Identity;
+pub(crate) use last_caller::LastCaller;
 pub use named::{Named, named};
 pub(crate) use origin::SPAWNED_TASK;
 pub use spawned::{SpawnedTask, blocking_task, spawned_task};
 
 use crate::channels::backend::Actor;
 use crate::channels::channel::CallSite;
+use crate::run::numbered::{NumberMap, NumberSet};
 use caller::{is_spawned_task, is_unnamed, name_of_thread};
 use holders::{Holder, Holders};
-use std::collections::{BTreeMap, BTreeSet, HashMap, HashSet, VecDeque};
+use std::collections::{HashMap, HashSet, VecDeque};
 use std::panic::Location;
 
 /// Where the name of a thread begins that has none.
@@ -67,11 +70,11 @@ pub(crate) struct Actors {
     // Of tasks without a name, by the numbers that their runtime gives them.
     tasks: HashMap<u64, Actor>,
     // Where each task without a name has made its first call.
-    first_calls: BTreeMap<u64, &'static Location<'static>>,
+    first_calls: NumberMap<u64, &'static Location<'static>>,
     // The numbers of threads and tasks without a name.
-    unnamed: BTreeSet<u64>,
+    unnamed: NumberSet<u64>,
     // Those of tasks that are known by where they come from.
-    spawned: BTreeSet<u64>,
+    spawned: NumberSet<u64>,
     // Whether the names are those of a journal that is replayed.
     are_of_journal: bool,
     // In a replay, the numbers of such actors of the journal that nobody has yet.
@@ -289,6 +292,13 @@ impl Actors {
         }
     }
 
+    /// Returns the name of the one who has this number, unless others share it.
+    pub(crate) fn name(&self, actor: Actor) -> Option<&String> {
+        let number = actor.number() as usize;
+        let is_shared = number + 1 == self.most() && !self.sharing.is_empty();
+        self.names.get(number).filter(|_| !is_shared)
+    }
+
     /// Returns the names by number. If others share the last number, its name says how many.
     pub(crate) fn names(&self) -> Vec<String> {
         let mut names = self.names.clone();
@@ -304,12 +314,12 @@ impl Actors {
 
     /// Returns where each task without a name has made its first call, by the task's number as an
     /// actor.
-    pub(crate) fn first_calls(&self) -> &BTreeMap<u64, &'static Location<'static>> {
+    pub(crate) fn first_calls(&self) -> &NumberMap<u64, &'static Location<'static>> {
         &self.first_calls
     }
 
     /// Returns the numbers of threads and tasks without a name.
-    pub(crate) fn unnamed(&self) -> &BTreeSet<u64> {
+    pub(crate) fn unnamed(&self) -> &NumberSet<u64> {
         &self.unnamed
     }
 }

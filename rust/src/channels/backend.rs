@@ -12,6 +12,7 @@ pub(crate) use flight::{ENTRIES_AT_MOST, Kept, LEAD, Lead, MOST_CHUNK, Window, W
 
 use crate::core::shim::Vec;
 use crate::core::shim::alloc::Global;
+use crate::core::source::rw_journal::CallForm;
 use crate::core::source::rw_law::NoMemory;
 use crate::core::source::rw_recording::{self, BCall as B, ChanCall, Flight, Kind, WCall as W};
 use crate::run::calls::with_calls;
@@ -28,6 +29,9 @@ impl Actor {
 
     /// How many actors there can be.
     pub(crate) const MOST: usize = 64;
+
+    /// The last one of a flight recorder that calls, since another one leads to windows.
+    pub(crate) const LAST_CALLER: Actor = Actor(Actor::MOST as u32 - 2);
 
     /// Returns the actor with this number, or the last one if the number is too great.
     pub(crate) fn of(number: usize) -> Actor {
@@ -147,6 +151,17 @@ impl Recording {
         }
     }
 
+    /// Returns which recorded call is the first of the last `count` sends, where all calls are
+    /// recorded: how many were recorded before it, and the number of its actor.
+    pub(crate) fn send_before_last(&self, count: u64) -> Option<(usize, Actor)> {
+        let calls = self.all.calls().iter().enumerate().rev();
+        let mut sends =
+            calls.filter(|(_, call)| matches!(call.call.to_call(), ChanCall::B(B::Send(..))));
+        let nth = usize::try_from(count.checked_sub(1)?).ok()?;
+        let (before, call) = sends.nth(nth)?;
+        Some((before, Actor::of(call.actor as usize)))
+    }
+
     /// How many calls are kept.
     pub(crate) fn entries(&self) -> u64 {
         match &self.last {
@@ -257,7 +272,7 @@ macro_rules! methods {
                     return self.call_apart(caller, move || ChanCall::$side($side::$variant $args));
                 }
                 let call = ChanCall::$side($side::$variant $args);
-                Reply::of(&self.all.call(caller.actor.number(), caller.clock, call))
+                Reply::of(&self.all.call(caller.actor.0, caller.clock, call))
             })*)*
         }
     };

@@ -5,7 +5,6 @@ mod at_gate;
 mod core_channel;
 mod kept;
 mod known;
-mod last_caller;
 mod last_calls;
 mod last_drops;
 mod locations;
@@ -13,14 +12,17 @@ mod locked;
 mod machine;
 mod made_handles;
 mod numbers;
+mod paused;
 mod receivers;
 mod recording;
 mod registry;
+mod sharing_callers;
 mod state;
 
 pub(crate) use core_channel::{Call, CoreChannel, Send};
 pub(crate) use kept::{KeptChannel, NotedChannel};
 pub(crate) use known::{Known, KnownReceiver};
+pub(crate) use last_calls::SendMade;
 pub(crate) use locations::{CallSite, CallSites, call_site};
 pub(crate) use locked::LockedChannel;
 pub(crate) use receivers::{LiveReceiver, NO_SLOT, Slot};
@@ -40,7 +42,7 @@ pub struct RecordedChannel {
     pub(crate) recorder: RecordedBy,
     pub(crate) state: Arc<Mutex<ChannelState>>,
     // Where its calls wait for their turns, in a replay or a run that is explored.
-    ordered: Option<OrderedChannel>,
+    pub(crate) ordered: Option<OrderedChannel>,
     // Among all channels of the process, until the last sender or receiver is dropped.
     _registered: Registered,
 }
@@ -50,7 +52,7 @@ impl RecordedChannel {
     /// none, or its run has no room for one more, the channel isn't recorded. Its first two handles
     /// are made here in the source.
     pub(crate) fn add(core: CoreChannel, value_count: u64, made_at: CallSite) -> RecordedChannel {
-        let current = Recorder::current_or_begun();
+        let current = Recorder::current_or_begun(made_at);
         note_channel(made_at, current.is_some());
         if current.is_none() {
             say_that_none_replays(made_at);
@@ -91,13 +93,6 @@ impl RecordedChannel {
     }
 }
 
-impl RecordedChannel {
-    /// Whether its calls are put into an order: by a journal that is replayed, or by an explorer.
-    pub(crate) fn is_ordered(&self) -> bool {
-        self.ordered.is_some()
-    }
-}
-
 /// A channel with its values, which are of the type `T`. `S` is how they are stored: a broadcast
 /// stores several, and a watch one.
 pub(crate) struct TypedChannel<T, S> {
@@ -108,10 +103,14 @@ pub(crate) struct TypedChannel<T, S> {
 
 impl<T, S> TypedChannel<T, S> {
     pub(crate) fn new(recorded: RecordedChannel, values: S) -> TypedChannel<T, S> {
+        let text_of = OnceLock::new();
+        if recorded.recorder.shows_known() {
+            let _ = text_of.set(TextOf::known());
+        }
         TypedChannel {
             recorded,
             values,
-            text_of: OnceLock::new(),
+            text_of,
         }
     }
 
@@ -134,7 +133,10 @@ impl<T, S> TypedChannel<T, S> {
     /// Sets the function for the texts of values. Returns `false` if the channel has one already,
     /// which it keeps.
     pub(crate) fn set_text_of(&self, text_of: TextOf<T>) -> bool {
-        self.text_of.set(text_of).is_ok()
+        match self.text_of.get() {
+            Some(own) => own.give(text_of),
+            None => self.text_of.set(text_of).is_ok(),
+        }
     }
 }
 

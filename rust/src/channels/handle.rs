@@ -9,9 +9,9 @@ use crate::channels::lock::lock;
 use crate::channels::recorder::RecordedHandle;
 use crate::channels::turns::Permit;
 use crate::channels::wait::{ComingCall, Method, Pending, PolledCall, WaitFor};
+pub(crate) use crate::run::operation::Kind;
+use crate::run::operation::Operation;
 use crate::run::reply::Reply;
-pub(crate) use crate::run::word::Kind;
-use crate::run::word::Word;
 use std::future::poll_fn;
 use std::mem;
 use std::panic::{RefUnwindSafe, UnwindSafe};
@@ -59,7 +59,7 @@ impl<T, S> ChannelHandle<T, S> {
     /// Creates a handle of the same channel, by this call.
     #[track_caller]
     #[inline]
-    pub(crate) fn create(&self, kind: Kind, word: Word, call: Call) -> Self {
+    pub(crate) fn create(&self, kind: Kind, word: Operation, call: Call) -> Self {
         let (reply, slot) = self.lock(word, call_site()).create(kind, call);
         self.sibling(kind, reply.new_handle(), slot)
     }
@@ -84,17 +84,24 @@ impl<T, S> ChannelHandle<T, S> {
     /// Locks the channel for a call of this handle, which is made here in the source, once its turn
     /// in a replay has come.
     #[inline]
-    pub(crate) fn lock(&self, word: Word, called_at: CallSite) -> LockedChannel<'_> {
+    pub(crate) fn lock(&self, word: Operation, called_at: CallSite) -> LockedChannel<'_> {
         let channel = &self.channel.recorded;
-        let permit = channel.pass(self.number, word, called_at);
+        let permit = match channel.ordered {
+            Some(_) => channel.pass_gate(self.number, word, called_at),
+            None => None,
+        };
         channel.lock(permit, self.number, called_at)
     }
 
     /// Waits for the turn of a call of this handle in a replay. It is called before a lock is
     /// acquired.
     #[inline]
-    pub(crate) fn pass(&self, word: Word, called_at: CallSite) -> Option<Permit<'_>> {
-        self.recorded().pass(self.number, word, called_at)
+    pub(crate) fn pass(&self, word: Operation, called_at: CallSite) -> Option<Permit<'_>> {
+        let channel = &self.channel.recorded;
+        match channel.ordered {
+            Some(_) => channel.pass_gate(self.number, word, called_at),
+            None => None,
+        }
     }
 
     /// Locks the channel for a call that has its turn by this permit.
@@ -110,7 +117,7 @@ impl<T, S> ChannelHandle<T, S> {
     /// Makes a call.
     #[track_caller]
     #[inline]
-    pub(crate) fn call(&self, word: Word, call: Call) -> Reply {
+    pub(crate) fn call(&self, word: Operation, call: Call) -> Reply {
         self.lock(word, call_site()).call(call)
     }
 
@@ -119,7 +126,7 @@ impl<T, S> ChannelHandle<T, S> {
     #[inline]
     pub(crate) fn ask(
         &self,
-        word: Word,
+        word: Operation,
         call: Call,
         read: impl FnOnce(&mut CoreChannel, u32) -> Reply,
     ) -> Reply {
@@ -133,7 +140,7 @@ impl<T, S> ChannelHandle<T, S> {
     #[track_caller]
     pub(crate) fn ask_count(
         &self,
-        word: Word,
+        word: Operation,
         call: Call,
         read: impl FnOnce(&mut CoreChannel, u32) -> u64,
     ) -> usize {
@@ -149,7 +156,7 @@ impl<T, S> ChannelHandle<T, S> {
     /// Makes the call that drops this handle, and wakes those who wait for it. Drops are called by
     /// the compiler, so it has no location in the source.
     pub(crate) fn drop_by(&self, call: Call) {
-        let mut channel = self.lock(Word::Drop, None);
+        let mut channel = self.lock(Operation::Drop, None);
         let (wakers, _event) = channel.drop_handle(self.kind, self.slot, call);
         channel.unlock();
         wakers.wake();
@@ -159,13 +166,14 @@ impl<T, S> ChannelHandle<T, S> {
     fn waiting(
         &self,
         wait_for: WaitFor,
-        word: Word,
+        word: Operation,
         method: Method,
         pending: Pending,
     ) -> PolledCall<'_> {
         PolledCall {
             channel: self.recorded(),
             handle: self.number,
+            slot: self.slot,
             wait_for,
             word,
             method,
@@ -177,7 +185,7 @@ impl<T, S> ChannelHandle<T, S> {
     pub(crate) async fn wait<R>(
         &self,
         wait_for: WaitFor,
-        word: Word,
+        word: Operation,
         method: Method,
         attempt: impl Fn(&mut LockedChannel<'_>) -> Poll<R>,
     ) -> R {
@@ -199,7 +207,7 @@ impl<T, S> ChannelHandle<T, S> {
     }
 
     /// Waits for the turn of a call of this handle in a replay, where it may be pending until then.
-    pub(crate) async fn turn(&self, word: Word, called_at: CallSite) -> Option<Permit<'_>> {
+    pub(crate) async fn turn(&self, word: Operation, called_at: CallSite) -> Option<Permit<'_>> {
         let mut coming = ComingCall {
             channel: self.recorded(),
             handle: self.number,
@@ -215,7 +223,7 @@ impl<T, S> ChannelHandle<T, S> {
     pub(crate) fn poll_wait<R>(
         &self,
         wait_for: WaitFor,
-        word: Word,
+        word: Operation,
         method: Method,
         pending: &mut Pending,
         context: &Context<'_>,

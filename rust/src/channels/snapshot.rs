@@ -8,6 +8,7 @@ use crate::channels::handle::Kind;
 use crate::channels::lock::lock;
 use crate::channels::recorder::{Handle, Recorder};
 use crate::channels::wait::{Awaited, Wait};
+use crate::run::sorting::sort_by_key;
 use std::panic::Location;
 use std::sync::{Arc, Mutex};
 use std::time::Duration;
@@ -203,7 +204,7 @@ impl ChannelSnapshot {
     fn new(state: &mut ChannelState) -> ChannelSnapshot {
         let mut receivers: Vec<_> = state.receivers.iter().map(ReceiverSnapshot::new).collect();
         // Not by the number, which may have been that of another one before.
-        receivers.sort_by_key(|(number, _)| state.core.nth(*number));
+        sort_by_key(&mut receivers, |(number, _)| state.core.nth(*number));
         let retained = state.core.capacity().map_or(1, |_| state.core.queued());
         let mut receivers: Vec<_> = receivers
             .into_iter()
@@ -315,7 +316,7 @@ impl ReceiverSnapshot {
 
     /// Adds the calls that wait to their receivers, which are in the order of their creation.
     fn add_waits(receivers: &mut [(u32, ReceiverSnapshot)], state: &ChannelState) {
-        for wait in state.waits.items() {
+        for wait in state.waits.items().values() {
             let nth = state.core.nth(wait.handle);
             let index = receivers.binary_search_by_key(&nth, |(number, _)| state.core.nth(*number));
             if let (Ok(index), Awaited::Value) = (index, wait.awaited) {

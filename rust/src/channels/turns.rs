@@ -5,8 +5,8 @@
 use crate::channels::backend::Actor;
 use crate::channels::channel::CallSite;
 use crate::channels::recorder::NotedPanic;
-use crate::run::names::Maker;
-use crate::run::word::Word;
+use crate::run::operation::Operation;
+use crate::run::sidecar::Maker;
 use std::mem;
 use std::sync::atomic::{AtomicBool, Ordering};
 use std::sync::{Arc, OnceLock};
@@ -15,10 +15,10 @@ use std::task::{Context, Poll};
 /// A call that comes to a gate: on which channel of the journal, by which handle, what, and who
 /// calls.
 #[derive(Clone, Copy)]
-pub(crate) struct Coming {
+pub(crate) struct ArrivingCall {
     pub(crate) channel: u32,
     pub(crate) handle: u32,
-    pub(crate) word: Word,
+    pub(crate) word: Operation,
     pub(crate) actor: Actor,
     pub(crate) called_at: CallSite,
 }
@@ -49,24 +49,24 @@ pub(crate) trait Turns: Send + Sync {
 
     /// Blocks until the turn of this call. `has_unread` says whether its receiver has anything to
     /// receive. Returns whether the call was given the turn, and has to give it on.
-    fn pass(&self, coming: Coming, has_unread: &dyn Fn() -> bool) -> bool;
+    fn pass(&self, coming: ArrivingCall, has_unread: &dyn Fn() -> bool) -> bool;
 
     /// Blocks until the turn of what a closure that changes a watch does: of the first call that it
     /// makes, or of the change.
-    fn pass_to_modify(&self, coming: Coming);
+    fn pass_to_modify(&self, coming: ArrivingCall);
 
     /// Polls a call that waits: it is pending until its turn, and waits before the gate by the
     /// ticket. It returns what [`pass`](Turns::pass) does.
     fn poll(
         &self,
-        coming: Coming,
+        coming: ArrivingCall,
         has_unread: &dyn Fn() -> bool,
         ticket: &mut Option<Ticket>,
         context: &Context<'_>,
     ) -> Poll<bool>;
 
     /// Notes a question that leaves no entry, and so isn't ordered.
-    fn note_question(&self, coming: Coming);
+    fn note_question(&self, coming: ArrivingCall);
 
     /// Removes a future that no longer waits before the gate.
     fn leave(&self, ticket: Ticket);
@@ -145,14 +145,18 @@ impl OrderedChannel {
     }
 
     /// Blocks until the turn of this call: see [`Turns::pass`].
-    pub(crate) fn pass(&self, coming: Coming, has_unread: &dyn Fn() -> bool) -> Option<Permit<'_>> {
+    pub(crate) fn pass(
+        &self,
+        coming: ArrivingCall,
+        has_unread: &dyn Fn() -> bool,
+    ) -> Option<Permit<'_>> {
         self.permit(self.turns.pass(coming, has_unread))
     }
 
     /// Polls a call that waits: see [`Turns::poll`].
     pub(crate) fn poll(
         &self,
-        coming: Coming,
+        coming: ArrivingCall,
         has_unread: &dyn Fn() -> bool,
         ticket: &mut Option<Ticket>,
         context: &Context<'_>,
@@ -176,14 +180,14 @@ impl OrderedChannel {
     pub(crate) fn coming(
         &self,
         handle: u32,
-        word: Word,
+        word: Operation,
         actor: Actor,
         called_at: CallSite,
-    ) -> Option<Coming> {
+    ) -> Option<ArrivingCall> {
         if self.is_free.load(Ordering::Relaxed) {
             return None;
         }
-        Some(Coming {
+        Some(ArrivingCall {
             channel: self.number,
             handle,
             word,

@@ -3,24 +3,21 @@
 
 use crate::channels::backend::Actor;
 use crate::channels::budget;
-use crate::channels::channel::{CallSite, LockedChannel, RecordedChannel, call_site};
+use crate::channels::channel::{
+    CallSite, LockedChannel, NO_SLOT, RecordedChannel, Slot, call_site,
+};
 use crate::channels::handle::Kind;
 use crate::channels::lock::lock;
-use crate::channels::queue::ItemNumber;
 use crate::channels::turns::{Permit, Ticket};
 use crate::channels::whereabouts::waker_of_call;
-use crate::run::word::Word;
+pub(crate) use crate::core::source::rw_waiting::WaitFor;
+use crate::run::operation::Operation;
 use std::task::{Context, Poll, Waker};
 use std::time::{Duration, Instant};
 
-/// What a future waits for.
-#[derive(Clone, Copy)]
-pub(crate) enum WaitFor {
-    /// A value, or that no sender is alive.
-    Value,
-    /// That no receiver is alive.
-    NoReceiver,
-}
+/// The number of a call among those that wait. Of two calls, the one that began first has the lower
+/// number.
+pub(crate) type WaitNumber = u64;
 
 impl WaitFor {
     /// The kind of the handles that wait for this.
@@ -82,6 +79,8 @@ pub(crate) enum Awaited {
 pub(crate) struct Wait {
     pub(crate) actor: Actor,
     pub(crate) handle: u32,
+    /// Where the handle is among the receivers, if it is one and the call has a waker.
+    pub(crate) slot: Slot,
     pub(crate) kind: Kind,
     pub(crate) awaited: Awaited,
     pub(crate) method: Method,
@@ -104,10 +103,10 @@ pub(crate) struct DroppedWait {
 /// The state of a call that waits between its polls.
 #[derive(Default)]
 pub(crate) struct Pending {
-    /// Its number in the queue of wakers.
-    pub(crate) queued: Option<ItemNumber>,
+    /// Its ticket, with which it is listed among those that are woken.
+    pub(crate) queued: Option<WaitNumber>,
     /// Its number among the calls that wait.
-    pub(crate) listed: Option<ItemNumber>,
+    pub(crate) listed: Option<WaitNumber>,
     /// Its ticket before the gate of a replay.
     pub(crate) before_gate: Option<Ticket>,
 }
@@ -126,7 +125,7 @@ impl Pending {
         if self.is_waiting() {
             let until = channel.recorder.0.as_ref().map(|recorder| recorder.last());
             let mut state = lock(&channel.state);
-            state.note_dropped(self, until, channel.is_ordered());
+            state.note_dropped(self, until, channel.ordered.is_some());
             let removed = state.end_wait(wait_for, self);
             drop(state);
             drop(removed);
@@ -139,16 +138,17 @@ impl Pending {
 pub(crate) struct PolledCall<'a> {
     pub(crate) channel: &'a RecordedChannel,
     pub(crate) handle: u32,
+    pub(crate) slot: Slot,
     pub(crate) wait_for: WaitFor,
-    pub(crate) word: Word,
+    pub(crate) word: Operation,
     pub(crate) method: Method,
     pub(crate) pending: Pending,
 }
 
 impl<'a> PolledCall<'a> {
-    /// Attempts the call. If it has to wait, the future is put into the queue under the same lock,
-    /// so no call in between is missed. Wakers are cloned and dropped while no lock is held, since
-    /// that may run user code.
+    /// Attempts the call. If it has to wait, the future is listed under the same lock, so no call
+    /// in between is missed. Wakers are cloned and dropped while no lock is held, since that may
+    /// run user code.
     pub(crate) fn poll<R>(
         &mut self,
         context: &Context<'_>,
@@ -176,12 +176,12 @@ impl<'a> PolledCall<'a> {
             }
             channel.would_wait();
             self.list(&mut channel, since);
-            let queue = channel.state.queue(self.wait_for);
-            if queue.wakes(self.pending.queued, context.waker()) {
+            let state = &mut *channel.state;
+            if state.wakes(self.wait_for, &self.pending, context.waker()) {
                 return Poll::Pending;
             }
             if let Some(waker) = cloned.take() {
-                let replaced = queue.add(&mut self.pending.queued, waker);
+                let replaced = state.list_waker(self.wait_for, self.slot, &mut self.pending, waker);
                 drop(channel);
                 drop(replaced);
                 return Poll::Pending;
@@ -212,7 +212,9 @@ impl PolledCall<'_> {
     fn list(&mut self, channel: &mut LockedChannel<'_>, since: u64) {
         if self.pending.listed.is_none() {
             let (kind, awaited) = (self.wait_for.kind(), self.wait_for.awaited());
-            self.pending.listed = Some(channel.list_wait(kind, awaited, self.method, since));
+            let slot = self.slot;
+            self.pending.listed =
+                Some(channel.list_wait((kind, slot), awaited, self.method, since));
         }
     }
 }
@@ -221,7 +223,7 @@ impl PolledCall<'_> {
 /// dropped.
 pub(crate) struct BlockedCall<'a> {
     channel: &'a RecordedChannel,
-    listed: ItemNumber,
+    listed: WaitNumber,
 }
 
 impl<'a> BlockedCall<'a> {
@@ -235,7 +237,7 @@ impl<'a> BlockedCall<'a> {
     ) -> BlockedCall<'a> {
         let mut locked = channel.lock_unordered(handle, method.called_at);
         let (since, look) = (locked.clock(), held_by(&locked));
-        let listed = locked.list_wait(kind, Awaited::Lock(look), method, since);
+        let listed = locked.list_wait((kind, NO_SLOT), Awaited::Lock(look), method, since);
         BlockedCall { channel, listed }
     }
 }
@@ -257,7 +259,7 @@ impl Drop for PolledCall<'_> {
 pub(crate) struct ComingCall<'a> {
     pub(crate) channel: &'a RecordedChannel,
     pub(crate) handle: u32,
-    pub(crate) word: Word,
+    pub(crate) word: Operation,
     pub(crate) called_at: CallSite,
     pub(crate) ticket: Option<Ticket>,
 }

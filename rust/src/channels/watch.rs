@@ -69,7 +69,7 @@ use crate::channels::lock::lock;
 use crate::channels::recorder::TextOf;
 use crate::channels::turns::Permit;
 use crate::channels::wait::{BlockedCall, Method, WaitFor};
-use crate::run::word::Word;
+use crate::run::operation::Operation;
 use std::sync::{RwLockReadGuard, RwLockWriteGuard};
 use std::task::Poll;
 use value::ValueLock;
@@ -103,8 +103,20 @@ pub fn channel<T>(init: T) -> (Sender<T>, Receiver<T>) {
     };
     let recorded = RecordedChannel::add(core, 1, call_site());
     let channel = TypedChannel::new(recorded, ValueLock::new(init));
+    if channel.has_text_of() {
+        show_first(&channel);
+    }
     let (sender, receiver) = ChannelHandle::first_two(channel);
     (Sender { handle: sender }, Receiver { handle: receiver })
+}
+
+/// Gives the value that a channel is created with its text.
+#[cold]
+fn show_first<T>(channel: &TypedChannel<T, ValueLock<T>>) {
+    let text = channel.text(&channel.values.read());
+    if let Some(text) = text {
+        lock(&channel.recorded.state).store_first_text(text);
+    }
 }
 
 fn attempt_changed(
@@ -124,10 +136,10 @@ impl<T> WatchHandle<T> {
     fn borrow(&self) -> Ref<'_, T> {
         let method = Method::called("borrow");
         let recorded = self.recorded();
-        if recorded.is_quiet(self.number, Word::Borrow, method.called_at) {
+        if recorded.is_quiet(self.number, Operation::Borrow, method.called_at) {
             self.borrow_by(None, method, |_| ())
         } else {
-            let permit = self.pass(Word::Borrow, method.called_at);
+            let permit = self.pass(Operation::Borrow, method.called_at);
             self.borrow_by(permit, method, |channel| {
                 channel.call(CoreChannel::watch_borrow);
             })
@@ -195,7 +207,7 @@ impl<T> WatchHandle<T> {
     /// Waits for this method until there is a value that this receiver has not seen, and marks it
     /// as seen.
     async fn changed(&self, method: Method) -> Result<(), error::RecvError> {
-        self.wait(WaitFor::Value, Word::Changed, method, |channel| {
+        self.wait(WaitFor::Value, Operation::Changed, method, |channel| {
             attempt_changed(channel, self.slot)
         })
         .await

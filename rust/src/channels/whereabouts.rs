@@ -22,6 +22,7 @@ use crate::channels::lock::lock;
 use crate::channels::recorder::{Recorder, Shared};
 use crate::channels::turns::explored;
 use crate::run::clock::now;
+use crate::run::sorting::sort_by_key;
 use budget::Budget;
 use std::collections::{HashMap, VecDeque};
 use std::sync::atomic::{AtomicBool, AtomicUsize, Ordering};
@@ -143,7 +144,7 @@ impl Shared {
         watched.look_at_clock();
         let tasks: Vec<_> = lock(&watched.tasks).by_number.values().cloned().collect();
         let mut tasks: Vec<_> = tasks.iter().map(|task| task.noted()).collect();
-        tasks.sort_by_key(|task| task.number);
+        sort_by_key(&mut tasks, |task| task.number);
         let unknown = watched.unknown_since.load(Ordering::Relaxed);
         let noted = NotedTasks {
             tasks,
@@ -311,6 +312,8 @@ impl Drop for BlockedSlot {
     fn drop(&mut self) {
         if let Some(task) = &self.0 {
             task.is_over();
+            // One that is aborted ends without a poll.
+            waker::note_end(task.number);
         }
     }
 }

@@ -2,14 +2,14 @@
 
 use crate::core::source::rw_law::NoMemory;
 
-/// Returns a list with room for so many.
+/// Returns a list with room for `len` items.
 pub(crate) fn reserved<T>(len: usize) -> Result<Vec<T>, NoMemory> {
     let mut list = Vec::new();
     list.try_reserve_exact(len).map_err(|_| NoMemory)?;
     Ok(list)
 }
 
-/// Collects things, of which there are at most so many.
+/// Collects things, of which there are at most `most`.
 pub(crate) fn collected<T>(most: usize, all: impl Iterator<Item = T>) -> Result<Vec<T>, NoMemory> {
     let mut list = reserved(most)?;
     list.extend(all);

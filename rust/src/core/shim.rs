@@ -17,6 +17,7 @@
 pub mod alloc;
 mod boxed;
 mod casts;
+pub mod collections;
 pub mod fallible;
 pub mod itoa;
 pub mod memchr;

@@ -17,4 +17,5 @@ pub mod rw_navigator;
 pub mod rw_findings;
 pub mod rw_text;
 pub mod rw_values;
+pub mod rw_waiting;
 pub mod rw_recording;

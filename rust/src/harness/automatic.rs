@@ -3,10 +3,15 @@
 //!
 //! The package that stands for tokio begins it, and says when the thread of the test blocks on a
 //! future. A panic that leaves that future ends the test, as it ends a recorder that is the first
-//! variable of the future. A test that blocks on none ends at its panic, after the hook of the
-//! harness has printed that. It may be caught: then the test goes on, and its last panic counts.
+//! variable of the future, and so does an `Err` that it returns. A test that blocks on none ends at
+//! its panic, after the hook of the harness has printed that. It may be caught: then the test goes
+//! on, and its last panic counts.
 
+mod passed;
+mod returned;
 mod tests_of_program;
+
+pub(super) use passed::PASSED;
 
 use super::exploring::RUNS;
 use super::for_test::SaveOnPanic;
@@ -19,9 +24,10 @@ use crate::channels::turns::explored;
 use crate::harness::program::Program;
 use std::any::Any;
 use std::cell::Cell;
+use std::panic::Location;
 use std::sync::OnceLock;
-use std::time::Duration;
-use std::{env, thread};
+use std::time::{Duration, SystemTime};
+use std::{env, fs, thread};
 
 /// The variable that the command sets for the tests that it runs.
 const COMMAND: &str = "YOVANELUM_COMMAND";
@@ -29,6 +35,12 @@ const COMMAND: &str = "YOVANELUM_COMMAND";
 /// The variable by which the command says after how many seconds a test that hasn't ended is
 /// reported. Without it, that is as many as after which the test harness says so too.
 const REPORT_AFTER: &str = "YOVANELUM_REPORT_AFTER";
+
+/// The variable by which the command names the tests that are to have a recorder, if not all.
+const ONLY_TESTS: &str = "YOVANELUM_ONLY";
+
+/// The variable by which the command has reports show no lines of the sources.
+const SHORT: &str = "YOVANELUM_SHORT";
 
 /// After how many seconds the test harness says that a test hasn't ended.
 const SECONDS: u64 = 60;
@@ -49,15 +61,52 @@ struct OfCommand;
 
 impl ForTests for OfCommand {
     fn is_test(&self, thread: &str) -> bool {
-        Program::this().target.is_test && tests_of_program::may_report(thread)
+        Program::this().target.is_test && is_chosen(thread) && tests_of_program::may_report(thread)
     }
 
-    fn begin(&self, test: &str) -> Option<(Recorder, Box<dyn Any + Send>)> {
+    fn test_at(&self, at: &Location<'_>) -> Option<(&'static str, Option<&'static str>)> {
+        if !Program::this().target.is_test {
+            return None;
+        }
+        let only = || only_test().map(|path| (path, Some(path)));
+        tests_of_program::test_at(at.file(), at.line()).or_else(only)
+    }
+
+    fn begin(&self, test: &str, is_end_seen: bool) -> Option<(Recorder, Box<dyn Any + Send>)> {
         let recorder = Recorder::of_test(test);
-        let saved = recorder.save_on_panic(test).watchdog(report_after());
+        recorder.0.show_known();
+        let mut saved = recorder.save_for(test, test.to_string());
+        if is_end_seen {
+            saved = saved.watchdog(report_after());
+        }
         saved.test.note_automatic();
         Some((recorder, Box::new(saved)))
     }
+}
+
+/// Whether the test with this path is to have a recorder: all are, unless the command names some.
+fn is_chosen(path: &str) -> bool {
+    static ONLY: OnceLock<Option<String>> = OnceLock::new();
+    let only = ONLY.get_or_init(|| env::var(ONLY_TESTS).ok());
+    let is_it = |name: &str| {
+        let before = path.strip_suffix(name);
+        before.is_some_and(|before| before.is_empty() || before.ends_with("::"))
+    };
+    only.as_deref()
+        .is_none_or(|names| names.split(',').any(is_it))
+}
+
+/// Returns the only test that this process runs, if its arguments name one.
+fn only_test() -> Option<&'static str> {
+    static ONLY: OnceLock<Option<String>> = OnceLock::new();
+    let only = ONLY.get_or_init(|| {
+        let arguments: Vec<_> = env::args().skip(1).collect();
+        let mut names = arguments.iter().filter(|word| !word.starts_with('-'));
+        let (first, second) = (names.next(), names.next());
+        let is_exact = arguments.iter().any(|word| word == "--exact");
+        first.filter(|_| is_exact && second.is_none()).cloned()
+    });
+    only.as_deref()
 }
 
 fn report_after() -> Duration {
@@ -95,14 +144,21 @@ fn begin() {
 /// No part of what this crate promises: it is for the package that stands for tokio.
 #[doc(hidden)]
 #[derive(Debug)]
-pub struct BlockedOn(());
+pub struct BlockedOn {
+    has_failed: bool,
+}
 
 impl BlockedOn {
     /// Notes that this thread blocks on a future.
     #[allow(clippy::new_without_default)]
     pub fn new() -> BlockedOn {
         let _ = BLOCKED_ON.try_with(|count| count.set(count.get() + 1));
-        BlockedOn(())
+        BlockedOn { has_failed: false }
+    }
+
+    /// Notes what the future returns, on which the thread blocks here in the sources.
+    pub fn returns<T>(&mut self, output: &T, at: &'static Location<'static>) {
+        self.has_failed = returned::note(output, at);
     }
 }
 
@@ -112,7 +168,7 @@ impl Drop for BlockedOn {
             count.set(count.get() - 1);
             count.get()
         });
-        if left == Ok(0) && thread::panicking() {
+        if left == Ok(0) && (self.has_failed || thread::panicking()) {
             end_of_this_thread();
         }
     }
@@ -130,6 +186,13 @@ fn end_of_this_thread() {
 pub(super) fn leave_to_test() {
     if is_under_command() {
         end_of_this_thread();
+    }
+}
+
+/// Has this thread, which panics, follow what other threads of its test have begun.
+pub(super) fn see_this_thread() {
+    if is_under_command() {
+        let _ = test_of_this_thread();
     }
 }
 
@@ -156,6 +219,14 @@ fn lines_on(test: &TestOfThread) -> Option<String> {
         saved.test.note_report();
         Some(lines)
     })?
+}
+
+/// Returns before which time sources were written whose lines a report shows: that of the program.
+/// They are shown under the command, unless it is told otherwise.
+pub(super) fn sources_before() -> Option<SystemTime> {
+    let is_shown = is_under_command() && env::var_os(SHORT).is_none();
+    let program = is_shown.then(|| fs::metadata(&Program::this().path));
+    program?.and_then(|program| program.modified()).ok()
 }
 
 /// Returns the line that brings this test back under the command.

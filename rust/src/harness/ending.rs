@@ -1,6 +1,7 @@
 //! What is written and printed at the end of a failing test: the journal, the names, the page with
 //! both inside, and the report.
 
+use super::automatic;
 use super::files::{self, file_name};
 use super::replay_line;
 use super::replaying::REPLAYED;
@@ -10,8 +11,8 @@ use crate::channels::lock::{lock, try_lock_for};
 use crate::channels::recorder::{PATIENCE, Shared};
 use crate::channels::turns::explored;
 use crate::run::journal::said;
-use crate::run::names::Names;
 use crate::run::report::{self, Report, at_call, page};
+use crate::run::sidecar::Sidecar;
 use crate::schedule::explore;
 use std::fs;
 use std::io;
@@ -104,11 +105,15 @@ impl TestRun {
             Err(error) => (None, not_written(&path, &error)),
         };
         let has_colours = report::has_colours(&io::stderr());
+        let report = match automatic::sources_before() {
+            Some(before) => report.with_sources(before),
+            None => report,
+        };
         format!("{}{more}", report.text(look, has_colours))
     }
 
     /// Returns the line that says how to make the calls again. Nobody can make those of a lead.
-    fn replay_line(&self, path: &Path, names: &Names) -> String {
+    fn replay_line(&self, path: &Path, names: &Sidecar) -> String {
         if names.window.is_some() {
             return String::new();
         }
@@ -155,7 +160,7 @@ fn compare_line(path: &Path, recorder: &Shared) -> String {
     }
 }
 
-fn not_written(path: &Path, error: &io::Error) -> String {
+pub(super) fn not_written(path: &Path, error: &io::Error) -> String {
     format!("yovanelum: {} isn't written: {error}\n", path.display())
 }
 
@@ -166,7 +171,7 @@ fn not_written(path: &Path, error: &io::Error) -> String {
 pub(super) fn write(
     (path, test): (&Path, u64),
     journal: &str,
-    names: &Names,
+    names: &Sidecar,
     call: u64,
 ) -> io::Result<(PathBuf, String)> {
     let names = names.to_json();

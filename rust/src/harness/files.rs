@@ -153,7 +153,7 @@ mod tests {
             ("html", Some(b"h1")),
         ];
         replace(&path, 0, &old).unwrap();
-        // No system takes a name of so many bytes.
+        // No system takes a name as long as this one.
         let long = "x".repeat(300);
         let faulty: [(_, Option<&[u8]>); 2] = [("journal", Some(b"j2")), (&long, Some(b""))];
         assert!(replace(&path, 0, &faulty).is_err());

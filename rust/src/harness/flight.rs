@@ -17,18 +17,21 @@ impl Recorder {
     /// does not grow.
     ///
     /// It is for a service that runs for weeks. Of each channel it keeps at least
-    /// `calls_per_channel` calls, and at most twice as many, or all while there are fewer. A call
-    /// takes some 50 bytes. When something happens, a [dump](Recorder::dump_to) writes them as a
-    /// journal, which `ttd`, the page and `yovanelum why` open as any other. See
-    /// [`guide::flight`](crate::guide::flight).
+    /// `calls_per_channel` calls, and at most twice as many, or all while there are fewer. Of a
+    /// broadcast channel whose capacity is over four times that number, it keeps at least a fourth
+    /// of the capacity. A call takes some 50 bytes. When something happens, a
+    /// [dump](Recorder::dump_to) writes them as a journal, which `ttd`, the page and
+    /// `yovanelum why` open as any other. See [`guide::flight`](crate::guide::flight).
     ///
     /// At least 1 call is kept, and at most 524,288 to 1,048,576 are. 10,000 calls are right for
     /// most services.
     ///
     /// Of the [limits](Recorder#limits), the one of entries does not end its recording. It gives
-    /// 63 numbers to threads and tasks. Where a channel has 65,534 senders and receivers that are
-    /// alive or were dropped within `calls_per_channel` calls, the calls before are forgotten. If
-    /// nearly all of them are alive, its recording ends.
+    /// 63 numbers to threads and tasks; of those that share the last one, the names of a dump say
+    /// who has made each call. Where a channel has 65,534 senders and receivers that are alive or
+    /// were dropped within `calls_per_channel` calls, the calls before are forgotten. If nearly all
+    /// of them are alive, its calls are not kept until there is room again: until at most 49,149
+    /// are alive, and none of those that were created beyond the first 65,534.
     ///
     /// # Examples
     ///
@@ -57,7 +60,8 @@ impl Recorder {
     ///
     /// A dump is a journal `flight-TIME-PID-N.journal` with its names beside it. The folder is
     /// created if it is not there. Both files are written under other names first, and take their
-    /// places when they are whole.
+    /// places when they are whole. On Unix, none but the user of the process may read them, nor a
+    /// folder that is created.
     ///
     /// It has the last calls of all channels, of one moment, and at most 1,000,000 of them. A
     /// channel is locked while its calls are copied, as [`guide::flight`](crate::guide::flight)
@@ -98,9 +102,9 @@ impl Recorder {
 
     /// Begins a dump of a flight recorder, for this reason, and returns it.
     ///
-    /// It does not wait. The returned [`Dump`] can be dropped, or waited for. Unlike the dumps that
-    /// something has triggered, those that are asked for are not limited in time. If another one is
-    /// being written, there is none.
+    /// It does not wait. The returned [`Dump`] can be dropped, or waited for. Those that are asked
+    /// for are not limited in time. If another one is being written, it comes after that one, with
+    /// the calls until now. There is none if 8 that somebody has asked for are not yet written.
     ///
     /// # Examples
     ///
@@ -126,8 +130,8 @@ impl Recorder {
         DumpRequest::asked(&self.0, reason)
     }
 
-    /// Returns how many dumps were written and failed, and how many there were none of since the
-    /// last one was too near.
+    /// Returns how many dumps were written and failed, and how many there were none of since others
+    /// were too near.
     ///
     /// # Examples
     ///

@@ -4,7 +4,7 @@ use super::automatic;
 use super::exploring;
 use super::nothing::likely_cause;
 use super::panic_hook;
-use super::test_run::TestRun;
+use super::test_run::{TestRun, name_of_thread};
 use super::watchdog::Watchdog;
 use crate::channels::recorder::{Entered, Recorder};
 use crate::channels::turns::explored;
@@ -107,11 +107,18 @@ impl Recorder {
     #[track_caller]
     pub fn save_on_panic(&self, name: &str) -> SaveOnPanic {
         automatic::leave_to_test();
+        self.save_for(name, name_of_thread())
+    }
+
+    /// As [`save_on_panic`](Recorder::save_on_panic), for a test that runs on the thread with this
+    /// name.
+    #[track_caller]
+    pub(super) fn save_for(&self, name: &str, thread: String) -> SaveOnPanic {
         panic_hook::install();
         self.say_if_not_replayed(name);
         exploring::begin(name);
         self.0.go_on_past_limit();
-        let test = TestRun::start(&self.0, name);
+        let test = TestRun::start(&self.0, name, thread);
         self.0.begin_watching();
         let (recorder, of_run) = (Arc::downgrade(&self.0), Arc::downgrade(&test));
         let report_hung = move || {
@@ -291,6 +298,9 @@ impl Drop for SaveOnPanic {
             let _ = panic::catch_unwind(AssertUnwindSafe(report));
         } else if !self.began_in_panic && explored().is_none() {
             self.test.say_if_nothing(&self.recorder.0);
+            if !has_failed {
+                self.test.keep_passing(&self.recorder.0);
+            }
         }
         self.recorder.0.end_watching();
     }

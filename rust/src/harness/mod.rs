@@ -4,7 +4,6 @@
 pub(crate) mod automatic;
 mod ending;
 pub(crate) mod exploring;
-mod facade;
 mod files;
 pub(crate) mod flight;
 pub(crate) mod for_test;
@@ -20,6 +19,7 @@ mod saved;
 mod seen_panic;
 mod source_names;
 mod stacks;
+mod stand_in;
 mod test_run;
 mod watchdog;
 mod whereabouts;

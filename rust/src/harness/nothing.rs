@@ -1,9 +1,9 @@
 //! What is said of a recorder under which no channel was created: nothing was recorded, and the
 //! likely cause.
 
-use super::facade;
 use super::saved::ITS_CHANNELS;
 use super::stacks;
+use super::stand_in;
 use super::test_run::{self, TestRun};
 use crate::channels::actors;
 use crate::channels::recorder::{OfNone, is_any_made, of_none};
@@ -33,7 +33,7 @@ fn by_build() -> String {
     if is_any_made() || is_patched() {
         return "the test created no channel that belongs to its recorder".to_string();
     }
-    let offer = facade::offer();
+    let offer = stand_in::offer();
     let offer = offer.unwrap_or_else(|error| format!("A patch isn't written: {error}"));
     format!("are tokio's channels swapped? {offer}")
 }

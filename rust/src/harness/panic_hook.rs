@@ -33,6 +33,7 @@ pub(super) fn install() {
     let before = panic::take_hook();
     panic::set_hook(Box::new(move |info| {
         dump_on_panic(info, is_last(info));
+        automatic::see_this_thread();
         let mut ended = note(info);
         if cfg!(panic = "abort") && Program::this().target.is_test {
             ended.drain(..).for_each(Ended::print);

@@ -127,13 +127,14 @@ fn quoted(text: &str) -> String {
 mod tests {
     use super::*;
     use crate::Recorder;
+    use crate::harness::test_run::name_of_thread;
     use std::thread;
 
     fn words(thread: &str, arguments: &[&str]) -> Option<String> {
         let recorder = Recorder::new();
         let name = thread.to_string();
         let thread = thread::Builder::new().name(name);
-        let test = thread.spawn(move || TestRun::start(&recorder.0, "it ends"));
+        let test = thread.spawn(move || TestRun::start(&recorder.0, "it ends", name_of_thread()));
         let test = test.unwrap().join().unwrap();
         let arguments: Vec<_> = arguments.iter().map(|word| word.to_string()).collect();
         of_harness(&TargetKind::Test, true, &test, &arguments).map(|words| words.join(" "))

@@ -6,7 +6,7 @@ use crate::channels::recorder::{REPLAY, Recorder, Shared};
 use crate::channels::standard_error::say;
 use crate::channels::turns::TestEnd;
 use crate::harness::program::Program;
-use crate::run::names::{TestId, test_beside};
+use crate::run::sidecar::{TestId, test_beside};
 use crate::schedule::explore;
 use crate::schedule::replay::{self, Gate, Replayed};
 use std::path::{Path, PathBuf};

@@ -15,7 +15,8 @@ use crate::core::lists::reserved;
 use crate::core::source::rw_law::NoMemory;
 use crate::harness::program::Program;
 use crate::run::journal;
-use crate::run::names::{HeldBy, Names, SourceLocation, WaitingCall};
+use crate::run::sidecar::{HeldBy, Sidecar, SourceLocation, WaitingCall};
+use crate::run::sorting::sort_by_key;
 use std::collections::HashMap;
 use std::panic::Location;
 use std::path::Path;
@@ -139,21 +140,21 @@ impl RunSoFar<'_> {
     }
 
     /// Returns what is known of the run beside its journal.
-    pub(crate) fn names(&self) -> Names {
-        let mut names = Names::default();
+    pub(crate) fn names(&self) -> Sidecar {
+        let mut names = Sidecar::default();
         let mut indexes = Indexes::default();
         for (number, channel) in (0..).zip(&self.channels) {
             add_channel(&mut names, &mut indexes, number, &lock(channel));
         }
         self.add_shared(&mut names, &mut indexes);
         names.locations = indexes.locations;
-        names.waiting.sort_by_key(|wait| wait.since);
-        names.dropped_waits.sort_by_key(|wait| wait.until);
+        sort_by_key(&mut names.waiting, |wait| wait.since);
+        sort_by_key(&mut names.dropped_waits, |wait| wait.until);
         names
     }
 
     /// Adds what is known of all channels.
-    fn add_shared(&self, names: &mut Names, indexes: &mut Indexes) {
+    fn add_shared(&self, names: &mut Sidecar, indexes: &mut Indexes) {
         let actors = lock(&self.shared.actors);
         names.actors = (0..).zip(actors.names()).collect();
         let first_calls = actors.first_calls().iter();
@@ -198,7 +199,7 @@ impl RunSoFar<'_> {
             };
             channels.extend(kept);
         }
-        let (mut names, mut indexes) = (Names::default(), Indexes::default());
+        let (mut names, mut indexes) = (Sidecar::default(), Indexes::default());
         self.add_shared(&mut names, &mut indexes);
         Ok(Copied {
             channels,
@@ -231,10 +232,10 @@ impl RunSoFar<'_> {
                 lock(&self.shared.actors).names()
             };
             let name = |actor: Actor| actors[actor.number() as usize].clone();
-            let waits = state.waits.items();
+            let waits = state.waits.items().values();
             waiting.extend(waits.map(|wait| Waiting::new(wait, number, &state, name)));
         }
-        waiting.sort_by_key(Waiting::since);
+        sort_by_key(&mut waiting, Waiting::since);
         waiting
     }
 
@@ -267,7 +268,7 @@ impl RunSoFar<'_> {
     }
 
     /// Adds those of these calls that don't wait any more. A window has no such ones.
-    fn add_waits_at_failure(&self, names: &mut Names, waits: &[WaitThen]) {
+    fn add_waits_at_failure(&self, names: &mut Sidecar, waits: &[WaitThen]) {
         if names.window.is_some() {
             return;
         }
@@ -283,12 +284,12 @@ impl RunSoFar<'_> {
                 names.waited_at_failure.push(call);
             }
         }
-        names.waited_at_failure.sort_by_key(|wait| wait.since);
+        sort_by_key(&mut names.waited_at_failure, |wait| wait.since);
     }
 
     /// Adds where the last sender and the last receiver of each channel were dropped. That reads
     /// the symbols of the program, so it is only for a report.
-    fn add_last_drops(&self, names: &mut Names) {
+    fn add_last_drops(&self, names: &mut Sidecar) {
         let here = env::current_dir().unwrap_or_default();
         for (number, channel) in (0..).zip(&self.channels) {
             let drops = lock(channel).last_drops.clone();
@@ -299,17 +300,11 @@ impl RunSoFar<'_> {
                 };
                 if let Some(location) = location {
                     let location = names.index_of(&location);
-                    names
-                        .dropped_at
-                        .entry(number)
-                        .or_default()
-                        .insert(which, location);
+                    let of_channel = names.dropped_at.get_or_default(number);
+                    of_channel.insert(which, location);
                 }
-                names
-                    .dropped_in
-                    .entry(number)
-                    .or_default()
-                    .insert(which, function);
+                let of_channel = names.dropped_in.get_or_default(number);
+                of_channel.insert(which, function);
             }
         }
     }
@@ -327,7 +322,7 @@ impl RunSoFar<'_> {
     }
 
     /// Returns the recorded run with its names, without the texts of its files.
-    pub(crate) fn with_names(&self) -> io::Result<(journal::Run, Names)> {
+    pub(crate) fn with_names(&self) -> io::Result<(journal::Run, Sidecar)> {
         let Read { run, mut names, .. } = self.read()?;
         names.fit_to(&run, "");
         Ok((run, names))
@@ -347,7 +342,7 @@ pub(super) struct Copied {
     /// The channel that the dump is about, by its number.
     pub(super) wanted: Option<usize>,
     last: u64,
-    pub(super) names: Names,
+    pub(super) names: Sidecar,
     indexes: Indexes,
 }
 
@@ -380,7 +375,7 @@ impl Copied {
 /// A run and its names.
 pub(super) struct Read {
     pub(super) run: journal::Run,
-    pub(super) names: Names,
+    pub(super) names: Sidecar,
     /// By how much the stamps of calls are raised.
     pub(super) raised: u64,
 }
@@ -389,7 +384,7 @@ pub(super) struct Read {
 pub(crate) struct Saved {
     pub(crate) run: journal::Run,
     pub(crate) journal: String,
-    pub(crate) names: Names,
+    pub(crate) names: Sidecar,
 }
 
 pub(super) fn text_of(run: &journal::Run) -> io::Result<String> {
@@ -467,7 +462,7 @@ fn waiting_call(
 }
 
 /// Adds what a channel knows of itself, under its number. A table that would be empty is left out.
-fn add_channel(names: &mut Names, indexes: &mut Indexes, number: u64, channel: &ChannelState) {
+fn add_channel(names: &mut Sidecar, indexes: &mut Indexes, number: u64, channel: &ChannelState) {
     if let Some(name) = &channel.name {
         names.channels.insert(number, name.clone());
     }
@@ -497,7 +492,7 @@ fn add_channel(names: &mut Names, indexes: &mut Indexes, number: u64, channel: &
     if !calls.is_empty() {
         names.calls.insert(number, calls);
     }
-    let waits = channel.waits.items();
+    let waits = channel.waits.items().values();
     let waits = waits.map(|wait| indexes.waiting(wait, number, channel.core.nth(wait.handle)));
     names.waiting.extend(waits);
     let dropped = channel.dropped_waits.iter().map(|dropped| WaitingCall {

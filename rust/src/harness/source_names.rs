@@ -7,9 +7,10 @@ mod binding;
 use crate::core::source::rw_handles::Kind;
 use crate::harness::program::Program;
 use crate::run::journal::Run;
-use crate::run::names::{Names, SourceLocation};
+use crate::run::numbered::NumberMap;
+use crate::run::sidecar::{Sidecar, SourceLocation};
 use binding::Bound;
-use std::collections::{BTreeMap, HashMap};
+use std::collections::HashMap;
 use std::fs;
 use std::path::Path;
 
@@ -34,10 +35,10 @@ impl Sources {
 }
 
 /// Adds the names that the sources give to what has none.
-pub(super) fn add(names: &mut Names, run: &Run) {
+pub(super) fn add(names: &mut Sidecar, run: &Run) {
     let root = Program::this().root_of(&[]).unwrap_or_default();
     let mut sources = Sources::default();
-    let mut channels = BTreeMap::new();
+    let mut channels = NumberMap::new();
     let made = names.made.clone();
     // Without memory for it, later receivers have no names.
     let traffic = run
@@ -49,7 +50,7 @@ pub(super) fn add(names: &mut Names, run: &Run) {
             let life = of_channel.and_then(|traffic| traffic.lives().get(handle as usize));
             life.is_some_and(|life| life.kind() == Kind::Receiver)
         };
-        let mut receivers = BTreeMap::new();
+        let mut receivers = NumberMap::new();
         for (handle, location) in handles {
             let at = names.locations.get(*location);
             let Some(bound) = at.and_then(|at| sources.bound(&root, at)) else {
@@ -67,15 +68,15 @@ pub(super) fn add(names: &mut Names, run: &Run) {
             }
         }
         tell_apart(receivers.values_mut());
-        let own = names.handles.entry(*channel).or_default();
+        let own = names.handles.get_or_default(*channel);
         receivers.into_iter().for_each(|(handle, name)| {
-            own.entry(handle).or_insert(name);
+            own.get_or_insert_with(handle, || name);
         });
     }
     names.handles.retain(|_, own| !own.is_empty());
     tell_apart(channels.values_mut());
     for (channel, name) in channels {
-        names.channels.entry(channel).or_insert(name);
+        names.channels.get_or_insert_with(channel, || name);
     }
 }
 

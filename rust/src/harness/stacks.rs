@@ -7,7 +7,7 @@
 //! What tokio drops of a task, as one that was aborted, has no caller: the frames beyond are of who
 //! runs the tasks. There the function is the one whose future is dropped.
 
-use crate::run::names::SourceLocation;
+use crate::run::sidecar::SourceLocation;
 use std::backtrace::Backtrace;
 use std::path::Path;
 

@@ -11,7 +11,8 @@ use crate::channels::recorder::{
     MOST_BYTES, NotedPanic, PATIENCE, Shared, TestCount, WaitThen, is_entered, next_moment,
 };
 use crate::harness::program::{Program, is_patched};
-use crate::run::names::{Names, Returned, SourceLocation, TestId};
+use crate::run::numbered::NumberMap;
+use crate::run::sidecar::{Returned, Sidecar, SourceLocation, TestId};
 use std::collections::BTreeMap;
 use std::fmt;
 use std::panic::{Location, PanicHookInfo};
@@ -72,13 +73,13 @@ static BEGUN: Mutex<BTreeMap<(String, String), u64>> = Mutex::new(BTreeMap::new(
 const MOST_NAMES: usize = 1000;
 
 /// The names of the last tests, by the numbers of their recorders.
-static NAMES: Mutex<BTreeMap<u64, String>> = Mutex::new(BTreeMap::new());
+static NAMES: Mutex<NumberMap<u64, String>> = Mutex::new(NumberMap::new());
 
 fn note_name(recorder: u64, name: &str) {
     let mut names = lock(&NAMES);
     names.insert(recorder, name.to_string());
     if names.len() > MOST_NAMES {
-        names.pop_first();
+        names.remove_first();
     }
 }
 
@@ -87,7 +88,7 @@ pub(super) fn name_of(recorder: u64) -> Option<String> {
     lock(&NAMES).get(&recorder).cloned()
 }
 
-fn name_of_thread() -> String {
+pub(super) fn name_of_thread() -> String {
     thread::current().name().unwrap_or_default().to_string()
 }
 
@@ -108,16 +109,17 @@ fn begin_next(name: &str) -> u64 {
 }
 
 impl TestRun {
-    /// Begins to note what happens to the test of this name, whose recorder is made on this thread.
+    /// Begins to note what happens to the test of this name, which runs on the thread with the
+    /// other name.
     #[track_caller]
-    pub(super) fn start(recorder: &Arc<Shared>, name: &str) -> Arc<TestRun> {
+    pub(super) fn start(recorder: &Arc<Shared>, name: &str, thread: String) -> Arc<TestRun> {
         files::begin();
         static NEXT: AtomicU64 = AtomicU64::new(1);
         let run = Arc::new(TestRun {
             recorder: Arc::downgrade(recorder),
             recorder_id: recorder.id,
             name: name.to_string(),
-            thread: name_of_thread(),
+            thread,
             nth: begin_next(name),
             moment: next_moment(),
             made_at: Location::caller(),
@@ -248,7 +250,7 @@ impl TestRun {
     }
 
     /// Adds to the names which test it is, and how it ends.
-    pub(super) fn add_to(&self, names: &mut Names) {
+    pub(super) fn add_to(&self, names: &mut Sidecar) {
         names.ending.test = Some(self.id());
         let Some(noted) = try_lock_for(&self.noted, PATIENCE) else {
             return;

@@ -206,6 +206,7 @@ impl SaveOnPanic {
 mod tests {
     use super::*;
     use crate::Recorder;
+    use crate::harness::test_run::name_of_thread;
 
     #[test]
     #[cfg_attr(target_family = "wasm", ignore = "WebAssembly has no threads")]
@@ -214,7 +215,7 @@ mod tests {
         let (is_running, ended) = mpsc::channel();
         let name = crate::temporary::name("ended");
         let watched = Watched {
-            test: TestRun::start(&recorder.0, &name),
+            test: TestRun::start(&recorder.0, &name, name_of_thread()),
             after: Duration::from_secs(3600),
             ended,
         };

@@ -7,8 +7,9 @@ use crate::channels::whereabouts::{
     KeptPlace, PlaceNumber, PollNoted, TaskNoted, WokenFrom, kept_place,
 };
 use crate::harness::program::Program;
-use crate::run::names::{
-    Names, SeenPlace, SeenPoll, SeenTask, SeenWake, SourceLocation, TasksSeen, WokenBy,
+use crate::run::sidecar::{
+    SeenPlace, SeenPoll, SeenTask, SeenWake, Sidecar, SourceLocation, TasksSeen, WokenBy,
+    is_downloaded,
 };
 use stack::{PrintedStack, StackFrame};
 use std::collections::HashMap;
@@ -32,7 +33,7 @@ const ENDS: [&str; 2] = ["::wake_join", "::harness::"];
 impl RunSoFar<'_> {
     /// Adds what was seen of the tasks of the test. That reads the symbols of the program, so it is
     /// only for a report. `raised` is by how much the stamps of calls are raised.
-    pub(super) fn add_tasks_seen(&self, names: &mut Names, raised: u64) {
+    pub(super) fn add_tasks_seen(&self, names: &mut Sidecar, raised: u64) {
         let Some(noted) = self.recorder().tasks_noted() else {
             return;
         };
@@ -88,7 +89,7 @@ impl Waking {
 }
 
 struct PlaceNaming<'a> {
-    names: &'a mut Names,
+    names: &'a mut Sidecar,
     root: PathBuf,
     here: PathBuf,
     // The index of each task by its number.
@@ -294,17 +295,6 @@ impl PlaceNaming<'_> {
     }
 }
 
-/// The parts of paths that the sources of others have: of the standard library, and of what cargo
-/// has downloaded.
-const OTHERS: [&str; 6] = [
-    "/.cargo/registry/",
-    "/.cargo/git/",
-    "/cargo/registry/",
-    "/git/checkouts/",
-    "/rustc/",
-    "/rustlib/",
-];
-
 /// The folders of this crate's own sources, and of those over it.
 const CRATE: [&str; 3] = ["/src/", "/stream/src/", "/tokio-recorded/src/"];
 
@@ -317,7 +307,5 @@ fn is_in_crate(file: &Path) -> bool {
 
 /// Whether a source isn't the program's own. One that isn't there was compiled elsewhere.
 fn is_of_others(file: &Path) -> bool {
-    let text = file.to_string_lossy();
-    let is_others = OTHERS.iter().any(|other| text.contains(other));
-    is_others || is_in_crate(file) || !file.is_file()
+    is_downloaded(&file.to_string_lossy()) || is_in_crate(file) || !file.is_file()
 }

@@ -2,16 +2,19 @@
 
 use super::saved::Indexes;
 use super::windows::{MadeWindow, Windows};
-use crate::channels::backend::{ENTRIES_AT_MOST, LEAD, Window};
+use crate::channels::backend::{Actor, ENTRIES_AT_MOST, LEAD, Window};
 use crate::channels::channel::NotedChannel;
 use crate::channels::recorder::Why;
 use crate::channels::wait::Wait;
 use crate::core::lists::{collected, reserved};
 use crate::core::source::rw_law::NoMemory;
 use crate::run::clock::{Moment, wall};
-use crate::run::names::{ChannelWindow, Names, WindowNames};
-use std::collections::{BTreeMap, BTreeSet};
+use crate::run::numbered::{NumberMap, NumberSet};
+use crate::run::sidecar::{ChannelWindow, Sidecar, WindowNames};
+use crate::run::sorting::sort_by_key;
+use std::collections::HashMap;
 use std::iter;
+use std::sync::Arc;
 
 /// What the actor of leads is called.
 const BEFORE: &str = "before the window";
@@ -41,12 +44,13 @@ impl Why {
 /// Adds what is known of the channels, whose windows these are, to the names of the recorder. Lists
 /// that grow with calls or handles may find no memory.
 pub(super) fn add(
-    names: &mut Names,
+    names: &mut Sidecar,
     indexes: &mut Indexes,
     (channels, made): (&[NotedChannel], &Windows),
     why: Why,
 ) -> Result<(), NoMemory> {
     let mut of_channels = reserved(channels.len())?;
+    let mut callers = Callers::default();
     for (channel, made) in channels.iter().zip(&made.windows) {
         let window = &made.window;
         let number = of_channels.len() as u64;
@@ -58,15 +62,18 @@ pub(super) fn add(
             made,
             window,
             real: real_handles(channel, window)?,
+            callers: &mut callers,
         };
-        adding.add_names();
+        adding.add_names()?;
         adding.add_calls()?;
+        adding.add_callers()?;
         adding.add_waits();
         of_channels.push((number, adding.described()?));
     }
+    callers.add_to(names);
     if made.lead > 0 {
         let lead = LEAD.number().into();
-        names.actors.entry(lead).or_insert_with(|| BEFORE.into());
+        names.actors.get_or_insert_with(lead, || BEFORE.into());
     }
     names.window = Some(WindowNames {
         trigger: why.trigger.to_string(),
@@ -82,13 +89,13 @@ pub(super) fn add(
 }
 
 /// Leaves out the texts of values that no call of the run has.
-fn keep_texts_of_run(names: &mut Names, channels: &[NotedChannel], made: &Windows) {
+fn keep_texts_of_run(names: &mut Sidecar, channels: &[NotedChannel], made: &Windows) {
     if names.values.is_empty() {
         return;
     }
     // Of each channel, the values of its lead, and the least one of the calls after it, which have
     // them in the order of their numbers.
-    let mut of_channels = vec![(BTreeSet::new(), u64::MAX); made.windows.len()];
+    let mut of_channels = vec![(NumberSet::new(), u64::MAX); made.windows.len()];
     for (place, entry) in made.run.entries() {
         let (in_lead, least) = &mut of_channels[entry.channel as usize];
         match entry.value {
@@ -110,11 +117,13 @@ fn keep_texts_of_run(names: &mut Names, channels: &[NotedChannel], made: &Window
     names.values.retain(|_, texts| !texts.is_empty());
 }
 
-/// Collects pairs one by one, in small requests for memory. `collect` sorts them in one list first.
-fn inserted<V>(pairs: impl Iterator<Item = (u64, V)>) -> BTreeMap<u64, V> {
-    let mut map = BTreeMap::new();
-    map.extend(pairs);
-    map
+/// Collects pairs, of which there may be many.
+fn inserted<V>(pairs: impl Iterator<Item = (u64, V)>) -> Result<NumberMap<u64, V>, NoMemory> {
+    let mut map = NumberMap::new();
+    for (number, value) in pairs {
+        map.try_insert(number, value)?;
+    }
+    Ok(map)
 }
 
 /// Returns the number in the channel's table of each handle of the journal that isn't only in the
@@ -137,24 +146,24 @@ fn times(channels: &[NotedChannel]) -> Result<Vec<Moment>, NoMemory> {
     let moments = channels.iter().map(|channel| &channel.calls.moments);
     let count = moments.clone().map(Vec::len).sum();
     let mut moments = collected(count, moments.flatten().copied())?;
-    moments.sort_unstable_by_key(|moment| moment.stamp);
+    sort_by_key(&mut moments, |moment| moment.stamp);
     moments.dedup_by_key(|moment| moment.stamp);
     Ok(moments)
 }
 
 /// Raises the stamps of the names as those of the calls are.
-fn raise(names: &mut Names, made: &Windows) {
+fn raise(names: &mut Sidecar, made: &Windows) {
     let waits = names.waiting.iter_mut().map(|wait| &mut wait.since);
     let times = names.times.iter_mut().map(|moment| &mut moment.stamp);
     for stamp in waits.chain(times) {
         *stamp = stamp.saturating_add(made.raised);
     }
     names.times.retain(|moment| moment.stamp <= made.last);
-    names.waiting.sort_by_key(|wait| wait.since);
+    sort_by_key(&mut names.waiting, |wait| wait.since);
 }
 
 /// Raises the stamps of how a test ended by as much.
-pub(super) fn raise_ending(names: &mut Names, raised: u64) {
+pub(super) fn raise_ending(names: &mut Sidecar, raised: u64) {
     let panics = names.ending.panics.iter_mut();
     let panics = panics.map(|panic| &mut panic.since);
     let returned = names.ending.returned.iter_mut().map(|it| &mut it.since);
@@ -165,7 +174,7 @@ pub(super) fn raise_ending(names: &mut Names, raised: u64) {
 
 /// Adds what is known of one channel.
 struct Adding<'a> {
-    names: &'a mut Names,
+    names: &'a mut Sidecar,
     indexes: &'a mut Indexes,
     number: u64,
     channel: &'a NotedChannel,
@@ -173,12 +182,32 @@ struct Adding<'a> {
     window: &'a Window,
     // By the journal's numbers.
     real: Vec<Option<u32>>,
+    callers: &'a mut Callers,
+}
+
+/// The numbers of callers that share one in the journal, by their names. No actor has them.
+#[derive(Default)]
+struct Callers(HashMap<Arc<str>, u64>);
+
+impl Callers {
+    fn number(&mut self, name: &Arc<str>) -> u64 {
+        let next = (Actor::MOST + self.0.len()) as u64;
+        *self.0.entry(name.clone()).or_insert(next)
+    }
+
+    /// Adds their names to those of the actors.
+    fn add_to(self, names: &mut Sidecar) {
+        let named = self.0.into_iter();
+        names
+            .actors
+            .extend(named.map(|(name, number)| (number, name.to_string())));
+    }
 }
 
 impl Adding<'_> {
     /// Adds the names of the channel and of its handles, where these were created, and the texts of
     /// its values.
-    fn add_names(&mut self) {
+    fn add_names(&mut self) -> Result<(), NoMemory> {
         let Adding {
             names,
             number,
@@ -194,7 +223,7 @@ impl Adding<'_> {
         }
         let texts = channel.calls.texts.iter();
         let texts = texts.map(|(value, text)| (*value, text.to_string()));
-        let texts = inserted(texts);
+        let texts = inserted(texts)?;
         if !texts.is_empty() {
             names.values.insert(number, texts);
         }
@@ -203,14 +232,15 @@ impl Adding<'_> {
         let named = real.clone().filter_map(|(in_journal, real)| {
             Some((in_journal, channel.name_of(handles.nth(real))?.clone()))
         });
-        let named = inserted(named);
+        let named = inserted(named)?;
         if !named.is_empty() {
             names.handles.insert(number, named);
         }
         let made = real.filter_map(|(in_journal, real)| {
             Some((in_journal, self.indexes.of(handles.made_at(real)?)))
         });
-        names.made.insert(number, inserted(made));
+        names.made.insert(number, inserted(made)?);
+        Ok(())
     }
 
     /// Adds where each call was made, and which ones have waited or were cancelled. The lead's were
@@ -236,6 +266,19 @@ impl Adding<'_> {
         let cancelled = entries(&self.channel.calls.cancelled)?;
         if !cancelled.is_empty() {
             self.names.matching.cancelled.insert(number, cancelled);
+        }
+        Ok(())
+    }
+
+    /// Adds who has made the calls of actors that stand for several.
+    fn add_callers(&mut self) -> Result<(), NoMemory> {
+        let (lead, before) = (self.window.lead(), self.channel.before(self.made.calls));
+        let calls = self.channel.calls.sharing.iter();
+        let calls = calls.filter_map(|(call, name)| Some((call.checked_sub(before)?, name)));
+        let callers = calls.map(|(call, name)| (lead + call, self.callers.number(name) as usize));
+        let callers = inserted(callers)?;
+        if !callers.is_empty() {
+            self.names.callers.insert(self.number, callers);
         }
         Ok(())
     }

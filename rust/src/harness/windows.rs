@@ -15,14 +15,14 @@ const MOST_OF_ALL: u64 = 1_000_000;
 pub(super) struct Most {
     /// How many entries all channels have together.
     all: u64,
-    /// How far a receiver lags that is asked in the window. So many sends are in the lead.
+    /// How far a receiver lags that is asked in the window. The lead has as many sends.
     lag: u64,
     /// The channel that the dump is about, and how far its receivers lag.
     wanted: Option<(usize, u64)>,
 }
 
 impl Most {
-    /// That of a dump of so many channels, which is about this one of them.
+    /// That of a dump of `channels` channels, which is about this one of them.
     pub(super) fn of_dump(channels: usize, wanted: Option<usize>) -> Most {
         Most {
             all: MOST_OF_ALL,
@@ -110,7 +110,7 @@ impl Windows {
     }
 }
 
-/// Returns the least stamp that a call can have after leads of so many entries.
+/// Returns the least stamp that a call can have after leads of `lead` entries.
 fn first_above(lead: u64) -> u64 {
     lead + 1
 }

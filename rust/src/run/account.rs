@@ -48,7 +48,7 @@ pub(crate) use saying::Saying;
 pub(crate) use waits::WaitAtEnd;
 
 use crate::run::journal::{Findings, FoundTraffic, Loss, Run, RunEntry, TextFault};
-use crate::run::names::{Names, SourceLocation};
+use crate::run::sidecar::{Sidecar, SourceLocation};
 use failure::{Failure, FailureAt};
 use finding::{Finding, orders};
 use history::History;
@@ -67,7 +67,7 @@ const MOST_FACTS: usize = 100;
 /// What is known of a run, and how its text calls it.
 struct Context<'a> {
     run: &'a Run,
-    names: &'a Names,
+    names: &'a Sidecar,
     history: &'a History,
     naming: &'a Naming<'a>,
     times: WindowTimes<'a>,
@@ -139,6 +139,7 @@ impl Context<'_> {
             role,
             actor: Some(entry.actor.into()),
             location: location.cloned(),
+            made: self.naming.made(entry.channel, entry.handle).cloned(),
             time,
             cells: [
                 visible::call(place),
@@ -210,6 +211,7 @@ impl Context<'_> {
             role: Role::Cause,
             actor: None,
             location: None,
+            made: None,
             time: None,
             cells: [
                 window::BEFORE.to_string(),
@@ -230,6 +232,7 @@ impl Context<'_> {
             role: Role::Failure,
             actor: failure.actor,
             location: location.cloned(),
+            made: None,
             time: None,
             cells: [
                 failure.name.to_string(),
@@ -249,6 +252,7 @@ impl Context<'_> {
             role: Role::End,
             actor: None,
             location: None,
+            made: None,
             time: None,
             cells: ["the end".to_string(), what, nothing(), nothing(), said],
         }
@@ -299,8 +303,10 @@ impl Account {
     /// # Errors
     ///
     /// Returns the first fault of the text, if it is not a journal.
-    pub(crate) fn read(text: &[u8], names: &Names) -> Result<Account, TextFault> {
-        Account::on(&Run::read(text)?, names)
+    pub(crate) fn read(text: &[u8], names: &Sidecar) -> Result<Account, TextFault> {
+        let mut run = Run::read(text)?;
+        run.tell_callers_apart(&names.callers);
+        Account::on(&run, names)
     }
 
     /// Makes the account of a run.
@@ -308,7 +314,7 @@ impl Account {
     /// # Errors
     ///
     /// Returns `NoMemory` if there is none for what is found.
-    pub(crate) fn on(run: &Run, names: &Names) -> Result<Account, TextFault> {
+    pub(crate) fn on(run: &Run, names: &Sidecar) -> Result<Account, TextFault> {
         let findings = run.findings()?;
         let found = traffic::told(run, &findings)?;
         Ok(Account::of_found(run, names, &findings, found))
@@ -317,7 +323,7 @@ impl Account {
     /// Makes the account of a run of which this was found, and the history is known.
     fn with(
         run: &Run,
-        names: &Names,
+        names: &Sidecar,
         findings: &Findings,
         history: &History,
     ) -> Result<Account, TextFault> {
@@ -329,7 +335,7 @@ impl Account {
     /// least on those of which there is something to tell.
     pub(crate) fn of_found(
         run: &Run,
-        names: &Names,
+        names: &Sidecar,
         findings: &Findings,
         found: FoundTraffic,
     ) -> Account {
@@ -339,7 +345,7 @@ impl Account {
 
     fn made(
         run: &Run,
-        names: &Names,
+        names: &Sidecar,
         findings: &Findings,
         history: &History,
         traffic: &Traffic,
@@ -363,7 +369,7 @@ impl Account {
         Account {
             calls: history.calls(),
             channels: run.specs().len() as u64,
-            window: WindowSaid::of(names, run.len()),
+            window: WindowSaid::of_run(names, run),
             nothing: nothing(&context, &unknown, &facts),
             failed: Failed::of(&context),
             unknown,

@@ -1,10 +1,10 @@
 //! The table of calls: what each is to a journal, to tokio, to an account and to the core.
 //!
-//! A row has the variant of `Word`, the journal's word, tokio's name of the method, and what an
-//! account says was done by it. Then come the kind of handle that it creates, if it does, and the
-//! sets that it is in (`CallSet`), and last the calls of the core that have this word: each is a
-//! method of a recording, and a variant of `BCall` or `WCall`. A call that waits, and for which a
-//! journal has the word of another one, names that one instead.
+//! A row has the variant of `Operation`, the journal's word, tokio's name of the method, and what
+//! an account says was done by it. Then come the kind of handle that it creates, if it does, and
+//! the sets that it is in (`CallSet`), and last the calls of the core that have this word: each is
+//! a method of a recording, and a variant of `BCall` or `WCall`. A call that waits, and for which
+//! a journal has the word of another one, names that one instead.
 //!
 //! rustc names the variant of `BCall` or `WCall` that has no row, and what a row lacks.
 

@@ -2,6 +2,10 @@
 
 use std::time::{Instant, SystemTime, UNIX_EPOCH};
 
+/// Where the clock of a flight recorder begins. It is more than the leads of all channels can have
+/// entries, and these have the stamps from 1 on. So a call has the same stamp in each dump.
+pub(crate) const FLIGHT_START: u64 = 64 * 1_048_576;
+
 /// When a call was made.
 #[derive(Clone, Copy, Debug, PartialEq, Eq)]
 pub(crate) struct Moment {
@@ -23,7 +27,7 @@ pub(crate) fn now() -> Option<Instant> {
     }
 }
 
-/// Returns the year, the month and the day that is so many days after the first one of 1970.
+/// Returns the year, the month and the day that is `days` days after the first one of 1970.
 pub(crate) fn date(days: u64) -> (u64, u64, u64) {
     // Days are counted from a first of March, so that a leap day is the last one of its year. There
     // are 146,097 days in 400 years.

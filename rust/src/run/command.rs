@@ -5,27 +5,28 @@
 
 use crate::run::account::against::Against;
 use crate::run::journal::{self, Run, TextFault};
-use crate::run::names::{Names, read_whole};
 use crate::run::report::{self, Report, at_call, page};
+use crate::run::sidecar::{Sidecar, read_whole};
 use std::ffi::OsString;
 use std::fs;
 use std::io::{IsTerminal, Write};
 use std::path::{Path, PathBuf};
 
 const USAGE: &str = "\
-Usage: yovanelum why JOURNAL [--json | --sarif]
+Usage: yovanelum why JOURNAL [--sources | --json | --sarif]
        yovanelum why JOURNAL --against JOURNAL [--json]
        yovanelum open JOURNAL
        yovanelum dap [--port PORT]
 
 why    prints what was found in the run of a journal: which values were lost, by whom and where
+       --sources prints with it the lines of the sources that haven't been written since
        --json    prints it as an object
        --sarif   prints it as a SARIF log
        --against JOURNAL   prints instead which call differs first from another run of the same test
 open   writes the page with the run inside beside the journal, and prints its name
 dap    starts the debug adapter for an editor, the program yovanelum-dap
 
-Names are read from the file NAME.names beside NAME.journal.
+Sidecar are read from the file NAME.names beside NAME.journal.
 ";
 
 /// What the command line asks for.
@@ -40,8 +41,32 @@ enum Verb {
 #[derive(Clone, Copy, PartialEq, Eq)]
 enum Form {
     Lines,
+    /// With those of the sources.
+    Sources,
     Json,
     Sarif,
+}
+
+impl Form {
+    /// The form that an option asks for.
+    fn of_option(option: &str) -> Option<Form> {
+        match option {
+            "--sources" => Some(Form::Sources),
+            "--json" => Some(Form::Json),
+            "--sarif" => Some(Form::Sarif),
+            _ => None,
+        }
+    }
+
+    /// The option that asks for it.
+    fn option(self) -> &'static str {
+        match self {
+            Form::Lines => "",
+            Form::Sources => "--sources",
+            Form::Json => "--json",
+            Form::Sarif => "--sarif",
+        }
+    }
 }
 
 /// Why the command ends before its work is done. Each is one line.
@@ -118,14 +143,12 @@ fn parsed(words: impl IntoIterator<Item = OsString>) -> Result<(Verb, PathBuf), 
     while let Some(word) = words.next() {
         match word.to_str() {
             Some("--help" | "-h") => return Ok((Verb::Help, PathBuf::new())),
-            Some(flag @ ("--json" | "--sarif")) if form == Form::Lines => {
-                form = if flag == "--json" {
-                    Form::Json
-                } else {
-                    Form::Sarif
-                };
+            Some(flag) if Form::of_option(flag).is_some() => {
+                if form != Form::Lines {
+                    return usage("give one of `--sources`, `--json` and `--sarif`");
+                }
+                form = Form::of_option(flag).unwrap_or(form);
             }
-            Some("--json" | "--sarif") => return usage("give one of `--json` and `--sarif`"),
             Some("--against") if other.is_some() => return usage("give one `--against`"),
             Some("--against") => match words.next() {
                 Some(path) => other = Some(PathBuf::from(path)),
@@ -142,8 +165,8 @@ fn parsed(words: impl IntoIterator<Item = OsString>) -> Result<(Verb, PathBuf), 
         return usage("a command is missing");
     };
     let verb = match (verb.to_str(), form) {
-        (Some("why"), Form::Sarif) if other.is_some() => {
-            return usage("`--against` has no `--sarif`");
+        (Some("why"), Form::Sarif | Form::Sources) if other.is_some() => {
+            return usage(&format!("`--against` has no `{}`", form.option()));
         }
         (Some("why"), form) => match other {
             Some(other) => Verb::Against(other, form),
@@ -151,8 +174,9 @@ fn parsed(words: impl IntoIterator<Item = OsString>) -> Result<(Verb, PathBuf), 
         },
         (Some("open"), _) if other.is_some() => return usage("`--against` is an option of `why`"),
         (Some("open"), Form::Lines) => Verb::Open,
-        (Some("open"), Form::Json) => return usage("`--json` is an option of `why`"),
-        (Some("open"), Form::Sarif) => return usage("`--sarif` is an option of `why`"),
+        (Some("open"), form) => {
+            return usage(&format!("`{}` is an option of `why`", form.option()));
+        }
         _ => return usage(&format!("there is no command `{}`", verb.to_string_lossy())),
     };
     match (names.next(), names.next()) {
@@ -192,13 +216,13 @@ impl Journal {
     }
 
     /// Returns the names and their text. Names that can't be read are left out, and a line says so.
-    fn names(&self, told: &mut impl Write) -> (Names, String) {
-        let read = Names::beside(&self.path, &self.text).unwrap_or_else(|fault| {
+    fn names(&self, told: &mut impl Write) -> (Sidecar, String) {
+        let read = Sidecar::beside(&self.path, &self.text).unwrap_or_else(|fault| {
             let path = self.path.with_extension("names");
             let _ = writeln!(told, "yovanelum: {} is left out: {fault}", path.display());
             None
         });
-        read.unwrap_or_else(|| (Names::default(), Names::default().to_json()))
+        read.unwrap_or_else(|| (Sidecar::default(), Sidecar::default().to_json()))
     }
 
     /// Finds what is in the run.
@@ -231,9 +255,13 @@ fn why(
     out: &mut (impl Write + IsTerminal),
     told: &mut impl Write,
 ) -> Result<(), Fault> {
-    let Found { report, .. } = journal.find(told)?;
+    let Found { mut report, .. } = journal.find(told)?;
     match form {
         Form::Lines => {}
+        Form::Sources => {
+            let written = fs::metadata(&journal.path).and_then(|file| file.modified());
+            report = report.with_sources(written.map_err(|error| Fault::Read(error.to_string()))?);
+        }
         Form::Json => return write_to(out, &format!("{}\n", report.account().to_json())),
         Form::Sarif => return write_to(out, &report::sarif(report.account())),
     }
@@ -279,7 +307,7 @@ fn open(
     let Found { report, names } = journal.find(told)?;
     let name = journal.path.file_name().unwrap_or_default();
     let path = journal.page();
-    let written = Names::with_account(&names, &report.account().to_json())
+    let written = Sidecar::with_account(&names, &report.account().to_json())
         .and_then(|names| {
             page::with_run(
                 page,

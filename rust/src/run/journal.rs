@@ -20,11 +20,16 @@ use crate::core::source::rw_law::{self, NoMemory};
 use crate::core::source::rw_navigator::Debugger;
 use crate::core::source::rw_recording::{self, ChanCall, World};
 use crate::core::source::rw_text;
+use crate::run::numbered::NumberMap;
+use crate::run::operation::Operation;
 use crate::run::reply::Reply;
-use crate::run::word::Word;
 
 /// A run: the channels of a recorder and their calls, or those of a journal text that was read.
-pub(crate) struct Run(pub(crate) rw_recording::Run<u64>);
+pub(crate) struct Run(pub(crate) rw_recording::Run<u64>, OwnActors);
+
+/// The numbers of callers of their own, by the places that their calls led to, of those whose actor
+/// in the journal stands for several.
+type OwnActors = NumberMap<u64, u32>;
 
 /// The values and the lives of the handles of each channel that was asked for.
 pub(crate) type FoundTraffic = Vec<Option<ChannelTraffic<u64>>>;
@@ -36,7 +41,7 @@ pub(crate) struct RunEntry {
     pub(crate) actor: u32,
     pub(crate) channel: u32,
     pub(crate) handle: u32,
-    pub(crate) word: Word,
+    pub(crate) word: Operation,
     /// The number of the value that the call passes, if it passes one.
     pub(crate) value: Option<u64>,
     pub(crate) reply: Reply,
@@ -50,7 +55,7 @@ impl RunEntry {
             actor: entry.actor,
             channel: entry.call.channel,
             handle: call.handle(),
-            word: Word::of(call),
+            word: Operation::of(call),
             value: value_of(call),
             reply: Reply::of(&Ok(entry.reply)),
         }
@@ -70,7 +75,7 @@ fn value_of(call: &ChanCall<u64>) -> Option<u64> {
 impl Run {
     /// Wraps a run of the core.
     pub(crate) fn of(run: rw_recording::Run<u64>) -> Run {
-        Run(run)
+        Run(run, OwnActors::new())
     }
 
     /// Returns the journal text of the run.
@@ -91,7 +96,7 @@ impl Run {
     ///
     /// Returns the first fault of the text, as `ttd check` does.
     pub(crate) fn read(text: &[u8]) -> Result<Run, TextFault> {
-        rw_text::read(Global, text).map(Run)
+        rw_text::read(Global, text).map(Run::of)
     }
 
     /// Reads the run of a journal text that may be truncated. Returns also how many bytes its whole
@@ -102,7 +107,7 @@ impl Run {
     /// Returns the first fault of the text, if it isn't only truncated.
     pub(crate) fn salvage(text: &[u8]) -> Result<(Run, usize), TextFault> {
         let (run, bytes) = rw_text::salvage(Global, text)?;
-        Ok((Run(run), bytes as usize))
+        Ok((Run::of(run), bytes as usize))
     }
 
     /// Opens the debugger of a copy of the run, at place 0.
@@ -146,14 +151,44 @@ impl Run {
         self.0.len()
     }
 
+    /// Tells callers apart whose actor in the journal stands for several: those of these calls, by
+    /// channel, and how many of its entries are before each. They have numbers that no actor has.
+    pub(crate) fn tell_callers_apart(&mut self, callers: &NumberMap<u64, NumberMap<u64, usize>>) {
+        if callers.is_empty() {
+            return;
+        }
+        // There are no more callers than calls, so a greater number is none of them.
+        let first = u64::from(rw_law::MOST_ACTORS);
+        let numbers = first..first + self.0.len();
+        let mut before = vec![0; self.specs().len()];
+        for (place, entry) in (1..).zip(self.0.entries()) {
+            let (channel, count) = (entry.call.channel, &mut before[entry.call.channel as usize]);
+            let of_channel = callers.get(&channel.into());
+            let caller = of_channel.and_then(|callers| callers.get(count));
+            let caller = caller.map(|caller| *caller as u64);
+            if let Some(caller) = caller.filter(|it| numbers.contains(it)) {
+                self.1.insert(place, caller as u32);
+            }
+            *count += 1;
+        }
+    }
+
+    fn with_own_actor(&self, place: u64, mut entry: RunEntry) -> RunEntry {
+        if let Some(actor) = self.1.get(&place) {
+            entry.actor = *actor;
+        }
+        entry
+    }
+
     /// Returns the entry that led to a place from 1 on.
     pub(crate) fn entry(&self, place: u64) -> RunEntry {
-        RunEntry::of(&self.0.entries()[place as usize - 1])
+        self.with_own_actor(place, RunEntry::of(&self.0.entries()[place as usize - 1]))
     }
 
     /// Returns each entry with the place that it led to.
     pub(crate) fn entries(&self) -> impl Iterator<Item = (u64, RunEntry)> {
-        (1..).zip(self.0.entries().iter().map(RunEntry::of))
+        let entries = (1..).zip(self.0.entries().iter().map(RunEntry::of));
+        entries.map(|(place, entry)| (place, self.with_own_actor(place, entry)))
     }
 
     /// How many entries each channel has.

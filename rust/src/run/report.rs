@@ -4,6 +4,7 @@
 mod colours;
 pub(crate) mod page;
 mod sarif;
+mod source_lines;
 #[cfg(test)]
 mod tests;
 mod workflow;
@@ -13,10 +14,12 @@ pub(crate) use sarif::sarif;
 use crate::run::account::visible::{self, first, path};
 use crate::run::account::{Account, Fact, Level};
 use crate::run::journal::{Run, TextFault};
-use crate::run::names::{Names, SourceLocation};
+use crate::run::sidecar::{Sidecar, SourceLocation};
 use colours::Colours;
+use source_lines::SourceLines;
 use std::env;
 use std::io::IsTerminal;
+use std::time::SystemTime;
 use workflow::Workflow;
 
 /// How many calls that wait are told.
@@ -28,9 +31,9 @@ const SHOWN_TASKS: usize = 8;
 /// Where the line of such a task begins.
 const TASK_WAITS: &str = "waits:";
 
-/// The account of a run, to be printed.
+/// The account of a run, to be printed, perhaps with lines of the sources.
 #[derive(Debug)]
-pub(crate) struct Report(Account);
+pub(crate) struct Report(Account, Option<SourceLines>);
 
 impl Report {
     /// Makes the report on the run of this journal text.
@@ -38,8 +41,8 @@ impl Report {
     /// # Errors
     ///
     /// Returns the first fault of the text, if it is not a journal.
-    pub(crate) fn new(text: &[u8], names: &Names) -> Result<Report, TextFault> {
-        Account::read(text, names).map(Report)
+    pub(crate) fn new(text: &[u8], names: &Sidecar) -> Result<Report, TextFault> {
+        Account::read(text, names).map(Report::of)
     }
 
     /// Makes the report on a run.
@@ -47,13 +50,19 @@ impl Report {
     /// # Errors
     ///
     /// Returns `NoMemory` if there is none for what is found.
-    pub(crate) fn on(run: &Run, names: &Names) -> Result<Report, TextFault> {
-        Account::on(run, names).map(Report)
+    pub(crate) fn on(run: &Run, names: &Sidecar) -> Result<Report, TextFault> {
+        Account::on(run, names).map(Report::of)
     }
 
     /// Makes the report of an account.
     pub(crate) fn of(account: Account) -> Report {
-        Report(account)
+        Report(account, None)
+    }
+
+    /// Shows lines of the sources too, where they weren't written after this.
+    pub(crate) fn with_sources(self, before: SystemTime) -> Report {
+        let root = self.0.root.clone().unwrap_or_default();
+        Report(self.0, Some(SourceLines::in_folder(root, before)))
     }
 
     /// The account that it prints.
@@ -71,7 +80,7 @@ impl Report {
         let colours = Colours { has_colours };
         let mut lines = self.before_facts();
         for (level, fact) in self.told() {
-            push_fact(&mut lines, fact, level, colours);
+            push_fact(&mut lines, (fact, level), colours, self.1.as_ref());
         }
         lines.extend(self.after_facts(colours));
         lines.extend(self.commands());
@@ -84,20 +93,20 @@ impl Report {
         let mut lines = vec![];
         let colours = Colours { has_colours: false };
         for (level, fact) in self.told() {
-            push_fact(&mut lines, fact, level, colours);
+            push_fact(&mut lines, (fact, level), colours, None);
         }
         lines.iter().map(|line| format!("{line}\n")).collect()
     }
 
     /// Returns the facts that are told in full, with their levels.
     fn told(&self) -> impl Iterator<Item = (Level, &Fact)> {
-        let Report(account) = self;
+        let Report(account, _) = self;
         account.with_levels().take(account.rest.after)
     }
 
     /// Returns the lines that say why there is a dump, and what isn't known.
     fn before_facts(&self) -> Vec<String> {
-        let Report(account) = self;
+        let Report(account, _) = self;
         let window = account.window.iter();
         let window = window.map(|window| format!("yovanelum: {}", window.text));
         let why = account.unknown.join("; ");
@@ -105,12 +114,14 @@ impl Report {
         let failed = account.failed.iter();
         let failed = failed.map(|failed| format!("failed: {}", failed.text));
         let window = window.chain((!why.is_empty()).then_some(line));
-        window.chain(failed).collect()
+        let in_snapshots = account.window.iter().flat_map(|it| &it.in_snapshots);
+        let in_snapshots = in_snapshots.map(|line| format!("yovanelum: {line}"));
+        window.chain(in_snapshots).chain(failed).collect()
     }
 
     /// Returns the lines of the other facts, of what was not found, and of the calls that wait.
     fn after_facts(&self, colours: Colours) -> Vec<String> {
-        let Report(account) = self;
+        let Report(account, _) = self;
         let nothing = account.nothing.as_ref();
         let nothing = nothing.map(|line| format!("yovanelum: {line}"));
         let waits = account.waiting.iter().filter(|wait| !wait.is_told);
@@ -130,7 +141,7 @@ impl Report {
     /// Returns the lines of the tasks that wait for something else than a call of a channel, if the
     /// run hangs or failed since a call waited.
     pub(crate) fn pending_lines(&self) -> Vec<String> {
-        let Report(account) = self;
+        let Report(account, _) = self;
         let tasks = account.pending.iter().take(SHOWN_TASKS);
         let mut lines: Vec<_> = tasks
             .map(|task| format!("{TASK_WAITS} {}", task.text))
@@ -153,19 +164,33 @@ impl Report {
 }
 
 /// Appends the lines of a fact. The first one has both its places in the sources on lines of their
-/// own, and the others have one.
-fn push_fact(lines: &mut Vec<String>, fact: &Fact, level: Level, colours: Colours) {
+/// own, and the others have one. A step whose line in the sources is shown has no other line.
+fn push_fact(
+    lines: &mut Vec<String>,
+    (fact, level): (&Fact, Level),
+    colours: Colours,
+    sources: Option<&SourceLines>,
+) {
     let is_first = level == Level::Error;
     let head = colours.head(&fact.head);
     lines.push(format!("{} {head}", colours.level(level)));
-    let mut sights = fact.sights();
-    lines.extend(sights.next().map(|(_, location)| arrow(location)));
-    if let Some((step, location)) = sights.next().filter(|_| is_first) {
-        let sentence = step.role.sentence();
-        lines.push(format!("note: {}, {sentence}", step.name()));
+    let mut shown = vec![];
+    for (nth, (step, location)) in fact.sights().take(1 + usize::from(is_first)).enumerate() {
+        if nth > 0 {
+            let sentence = step.role.sentence();
+            lines.push(format!("note: {}, {sentence}", step.name()));
+        }
         lines.push(arrow(location));
+        if let Some(source) = sources.and_then(|sources| sources.of(location)) {
+            let label = format!("{} {}", source.carets, fact.label(step));
+            lines.extend([
+                source.line,
+                source.below + &colours.label(level, nth, &label),
+            ]);
+            shown.push(step.place);
+        }
     }
-    let others = fact.text().into_iter().skip(1);
+    let others = fact.text_without(&shown).into_iter().skip(1);
     lines.extend(others.map(|line| match line.strip_prefix("  lost:") {
         Some(lost) => format!("  {}{lost}", colours.lost("lost:")),
         None => match line.strip_prefix("  late:") {

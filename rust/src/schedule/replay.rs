@@ -27,4 +27,4 @@ pub use outcome::Replayed;
 pub(crate) use stop::is_wanted as is_stop_wanted;
 
 use crate::channels::actors::Identity;
-use crate::channels::turns::Coming;
+use crate::channels::turns::ArrivingCall;

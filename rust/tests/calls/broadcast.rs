@@ -1,7 +1,7 @@
 //! What tokio's documentation says about `sync::broadcast`.
 
 use crate::support::poll_once;
-use std::panic::{RefUnwindSafe, UnwindSafe};
+use std::panic::{AssertUnwindSafe, RefUnwindSafe, UnwindSafe, catch_unwind};
 use std::sync::Arc;
 use std::sync::atomic::{AtomicUsize, Ordering};
 use std::task::{Context, Poll, Wake, Waker};
@@ -239,6 +239,68 @@ fn closed_waits_until_no_receiver_is_alive() {
     assert_eq!(poll_once(tx.closed()), Some(()));
     let _rx = tx.subscribe();
     assert_eq!(poll_once(tx.closed()), None);
+}
+
+/// A value that counts its drop, and then may panic.
+struct CountedDrop(Arc<AtomicUsize>, bool);
+
+impl Drop for CountedDrop {
+    fn drop(&mut self) {
+        self.0.fetch_add(1, Ordering::SeqCst);
+        assert!(!self.1, "this value's drop panics");
+    }
+}
+
+/// Notes how many values were dropped when it was woken.
+struct NotesDrops {
+    dropped: Arc<AtomicUsize>,
+    seen: AtomicUsize,
+}
+
+impl Wake for NotesDrops {
+    fn wake(self: Arc<Self>) {
+        self.seen
+            .store(self.dropped.load(Ordering::SeqCst), Ordering::SeqCst);
+    }
+}
+
+/// Drops the last receiver, which has yet to receive 4 values, while `closed` waits. The drop of
+/// the value with this number panics. Returns how many were dropped when `closed` was woken, and
+/// whether the receiver's drop panicked.
+fn drop_last_receiver(panicking: Option<u32>) -> (usize, bool) {
+    let dropped = Arc::new(AtomicUsize::new(0));
+    let noting = Arc::new(NotesDrops {
+        dropped: dropped.clone(),
+        seen: AtomicUsize::new(0),
+    });
+    let (tx, rx) = broadcast::channel(4);
+    for number in 0..4 {
+        let sent = tx.send(Arc::new(CountedDrop(
+            dropped.clone(),
+            Some(number) == panicking,
+        )));
+        assert!(sent.is_ok());
+    }
+    let waker = Waker::from(noting.clone());
+    let mut closed = pin!(tx.closed());
+    let polled = closed.as_mut().poll(&mut Context::from_waker(&waker));
+    assert!(polled.is_pending());
+    let panicked = catch_unwind(AssertUnwindSafe(|| drop(rx))).is_err();
+    assert_eq!(dropped.load(Ordering::SeqCst), 4);
+    (noting.seen.load(Ordering::SeqCst), panicked)
+}
+
+#[test]
+fn closed_is_woken_once_the_last_values_are_dropped() {
+    assert_eq!(drop_last_receiver(None), (4, false));
+}
+
+#[test]
+#[cfg_attr(target_family = "wasm", ignore = "WebAssembly ends at the first panic")]
+fn closed_is_woken_also_if_the_drop_of_a_value_panics() {
+    for panicking in 0..4 {
+        assert_eq!(drop_last_receiver(Some(panicking)), (4, true));
+    }
 }
 
 #[test]

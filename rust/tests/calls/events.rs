@@ -25,9 +25,12 @@ fn a_lag_says_each_thing_of_the_channel_the_receiver_and_the_sender() {
     }
     assert_eq!(chart.try_recv(), Err(TryRecvError::Lagged(3)));
     assert_eq!(chart.try_recv(), Ok(3));
-    let sent = block_on(named("exchange", async {
-        send_each(&prices, 0..4);
-        (line!(), prices.send(9).unwrap()).0
+    // The values 3, of the first ones, and 4 are retained. The second send after it overwrites 4.
+    let (overwritten, sent) = block_on(named("exchange", async {
+        send_each(&prices, 0..1);
+        let overwritten = (line!(), prices.send(6).unwrap()).0;
+        send_each(&prices, 7..9);
+        (overwritten, (line!(), prices.send(9).unwrap()).0)
     }));
     let (received, result) = (line!(), block_on(chart.recv()));
     assert_eq!(result, Err(RecvError::Lagged(4)));
@@ -47,13 +50,60 @@ fn a_lag_says_each_thing_of_the_channel_the_receiver_and_the_sender() {
     assert_eq!((lag.lost(), lag.lost_in_all(), lag.unread()), (4, 7, 2));
     assert_eq!(lag.sender(), Some("exchange"));
     assert_eq!(line(lag.sent_at()), sent);
+    assert_eq!(lag.overwritten_by(), Some("exchange"));
+    assert_eq!(line(lag.overwritten_at()), overwritten);
     // The thread of a test has its name.
     assert_eq!(first.sender(), thread::current().name());
     let text = format!(
-        "`chart` lost 4 values of `prices` (capacity 2), 7 in all, and has 2 to receive; the last send was by exchange at {}:{sent}",
+        "`chart` lost 4 values of `prices` (capacity 2), 7 in all, and has 2 to receive; the first was overwritten by exchange at {}:{overwritten}",
         file!()
     );
     assert_eq!(lag.to_string(), text);
+}
+
+/// Has two senders take turns, so that the receiver has lost values when it asks. Returns whose
+/// send overwrote the first one, as the event says.
+fn overwriter(recorder: Recorder, values: u64) -> Option<String> {
+    let lags = Noted::<Lag>::default();
+    recorder.on_lag(lags.noting());
+    let _entered = recorder.enter();
+    let (prices, mut chart) = broadcast::channel(4);
+    let mut asks = |lost| assert_eq!(chart.try_recv(), Err(TryRecvError::Lagged(lost)));
+    for price in 0..values {
+        let sender = if price % 10 == 4 { "exchange" } else { "desk" };
+        block_on(named(sender, async { prices.send(price) })).unwrap();
+        // Questions are calls between the sends.
+        assert_eq!(prices.receiver_count(), 1);
+    }
+    asks(values - 4);
+    let lags = lags.take();
+    assert_eq!(lags[0].sender(), Some("desk"));
+    lags[0].overwritten_by().map(str::to_string)
+}
+
+#[test]
+fn a_lag_says_whose_send_overwrote_the_first_value_where_that_is_kept() {
+    // The values 0 to 8 are lost. The first one was overwritten by the value 4.
+    let wanted = Some("exchange");
+    assert_eq!(overwriter(Recorder::new(), 13).as_deref(), wanted);
+    assert_eq!(overwriter(Recorder::flight(20), 13).as_deref(), wanted);
+    // Of 1000 calls, this keeps the last ones alone.
+    assert_eq!(overwriter(Recorder::flight(20), 500), None);
+}
+
+#[test]
+fn a_lag_of_one_value_was_by_the_last_send() {
+    for recorder in [Recorder::new(), Recorder::flight(1)] {
+        let lags = Noted::<Lag>::default();
+        recorder.on_lag(lags.noting());
+        let _entered = recorder.enter();
+        let (prices, mut chart) = broadcast::channel(2);
+        for (sender, price) in [("exchange", 0), ("exchange", 1), ("desk", 2)] {
+            block_on(named(sender, async { prices.send(price) })).unwrap();
+        }
+        assert_eq!(chart.try_recv(), Err(TryRecvError::Lagged(1)));
+        assert_eq!(lags.take()[0].overwritten_by(), Some("desk"));
+    }
 }
 
 #[test]

@@ -3,6 +3,7 @@
 use super::support::named::member;
 use super::support::temporary;
 use super::windows::{lead, times, trigger, windows};
+use std::collections::BTreeSet;
 use std::path::{Path, PathBuf};
 use std::time::Duration;
 use std::{fs, panic, thread};
@@ -16,7 +17,7 @@ fn folder(name: &str) -> PathBuf {
     folder
 }
 
-/// Waits until so many dumps were written or have failed.
+/// Waits until `dumps` dumps were written or have failed.
 fn wait_for(recorder: &Recorder, dumps: u64) {
     while recorder.dumps().written() + recorder.dumps().failed() < dumps {
         thread::yield_now();
@@ -39,7 +40,7 @@ fn dumps_in(folder: &Path) -> Vec<(String, String)> {
         .collect()
 }
 
-/// Sends until the receiver has lost so many values, and asks it.
+/// Sends until the receiver has lost `lost` values, and asks it.
 fn lag(tx: &broadcast::Sender<u64>, rx: &mut broadcast::Receiver<u64>, lost: u64) {
     while rx.try_recv().is_ok() {}
     for value in 0..lost + 4 {
@@ -114,6 +115,34 @@ fn the_close_of_a_channel_with_that_name_calls_for_a_dump() {
 }
 
 #[test]
+fn the_close_of_each_of_several_names_calls_for_a_dump_and_one_is_kept_at_least() {
+    let folder = folder("flight-closes");
+    let recorder = Recorder::flight(10);
+    let dumps = recorder.dump_to(&folder).at_most_every(Duration::ZERO);
+    dumps.keep(0).when_closed("config").when_closed("level");
+    let _entered = recorder.enter();
+    let (config, _server) = watch::channel(0);
+    let (level, _gauge) = watch::channel(0);
+    recorder.name(&config, "config").name(&level, "level");
+    drop(config);
+    assert!(has_dump_of(&recorder, &folder, 1, "config"));
+    drop(level);
+    assert!(has_dump_of(&recorder, &folder, 2, "level"));
+    fs::remove_dir_all(folder).unwrap();
+}
+
+/// Waits until so many dumps were written, and returns whether the only one that is kept was begun
+/// by the close of this channel.
+fn has_dump_of(recorder: &Recorder, folder: &Path, count: u64, channel: &str) -> bool {
+    wait_for(recorder, count);
+    let dumps = dumps_in(folder);
+    let [(_, names)] = &dumps[..] else {
+        return false;
+    };
+    member(names, "window").contains(&format!("`{channel}`"))
+}
+
+#[test]
 fn dumps_are_not_too_near_and_not_too_many() {
     let folder = folder("flight-many");
     let recorder = Recorder::flight(10);
@@ -143,6 +172,58 @@ fn dumps_are_not_too_near_and_not_too_many() {
 }
 
 #[test]
+fn dumps_that_are_asked_for_at_once_are_all_written_with_the_calls_until_then() {
+    let folder = folder("flight-at-once");
+    let recorder = Recorder::flight(100);
+    recorder.dump_to(&folder);
+    let _entered = recorder.enter();
+    let (prices, _chart) = broadcast::channel(4);
+    let dumps: Vec<_> = (0..8)
+        .map(|price| {
+            prices.send(price).unwrap();
+            recorder.dump(&format!("try {price}"))
+        })
+        .collect();
+    for (price, dump) in (0..).zip(dumps) {
+        let path = dump.wait().unwrap();
+        let journal = fs::read_to_string(&path).unwrap();
+        assert!(journal.ends_with(&format!(" send 0 {price} = sent 1\nend\n")));
+        let names = fs::read_to_string(path.with_extension("names")).unwrap();
+        assert!(names.contains(&format!("\"try {price}\"")));
+    }
+    assert_eq!(
+        (recorder.dumps().written(), recorder.dumps().left_out()),
+        (8, 0)
+    );
+    fs::remove_dir_all(folder).unwrap();
+}
+
+#[test]
+fn new_dumps_stay_where_the_clock_was_set_back() {
+    let folder = folder("flight-clock");
+    fs::create_dir_all(&folder).unwrap();
+    for number in 1..4 {
+        for ending in ["journal", "names"] {
+            let file = format!("flight-20990101T000000000Z-7-{number}.{ending}");
+            fs::write(folder.join(file), "").unwrap();
+        }
+    }
+    let recorder = Recorder::flight(10);
+    recorder.dump_to(&folder).keep(2);
+    let _entered = recorder.enter();
+    let _channel = broadcast::channel::<u64>(4);
+    let paths = ["one", "two", "three"].map(|reason| recorder.dump(reason).wait().unwrap());
+    let left = fs::read_dir(&folder)
+        .unwrap()
+        .map(|file| file.unwrap().path());
+    let left: BTreeSet<_> = left
+        .filter(|path| path.extension().is_some_and(|it| it == "journal"))
+        .collect();
+    assert_eq!(left, paths[1..].iter().cloned().collect());
+    fs::remove_dir_all(folder).unwrap();
+}
+
+#[test]
 fn a_dump_that_cannot_be_written_is_counted_and_the_service_goes_on() {
     let folder = folder("flight-no-folder");
     fs::write(&folder, "a file is in its place").unwrap();
@@ -153,6 +234,9 @@ fn a_dump_that_cannot_be_written_is_counted_and_the_service_goes_on() {
     lag(&prices, &mut chart, 1);
     wait_for(&recorder, 1);
     assert_eq!((recorder.dumps().failed(), chart.try_recv()), (1, Ok(1)));
+    let error = recorder.dump("asked for").wait().unwrap_err().to_string();
+    let wanted = format!("{}: ", folder.display());
+    assert!(error.starts_with(&wanted), "{error}");
     fs::remove_file(folder).unwrap();
 }
 

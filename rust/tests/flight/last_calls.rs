@@ -2,9 +2,10 @@
 //! names and texts of what they are about, and when they were.
 
 use super::support::named::{call_lines, member};
-use super::windows::{lead, texts, times, trigger, windows};
+use super::windows::{callers, lead, texts, times, trigger, windows};
 use std::collections::BTreeMap;
 use std::thread;
+use yovanelum::broadcast::error::TryRecvError;
 use yovanelum::debugger::Walk;
 use yovanelum::{Recorder, block_on, broadcast, named, watch};
 
@@ -113,14 +114,15 @@ fn texts_are_those_of_values_that_the_journal_has() {
 fn the_first_value_keeps_its_text_where_it_was_not_overwritten() {
     let recorder = Recorder::flight(4);
     let _entered = recorder.enter();
+    // A chunk has a fourth of these calls.
     let (prices, _chart) = broadcast::channel(64);
     recorder.show(&prices, |price| format!("{price} EUR"));
-    for price in 0..20 {
+    for price in 0..40 {
         prices.send(price).unwrap();
     }
     let names = recorder.names();
     assert!(lead(&names) > 0);
-    let wanted = (0..20).map(|value| (value, format!("{value} EUR")));
+    let wanted = (0..40).map(|value| (value, format!("{value} EUR")));
     assert!(wanted.eq(of_first_channel(&names, "values")));
 }
 
@@ -234,7 +236,7 @@ fn as_many_handles_are_alive_as_a_lead_has_room_for() {
 }
 
 #[test]
-fn a_channel_of_which_nearly_all_handles_are_alive_is_recorded_no_longer() {
+fn a_channel_is_recorded_again_once_there_is_room_for_its_handles() {
     let recorder = Recorder::flight(1_000);
     let _entered = recorder.enter();
     let (orders, _mailer) = broadcast::channel(4);
@@ -247,18 +249,39 @@ fn a_channel_of_which_nearly_all_handles_are_alive_is_recorded_no_longer() {
     let names = recorder.names();
     assert_eq!(member(&names, "channels"), "{\"0\": \"orders\"}");
     assert!(member(&names, "unrecorded").contains("\"handles\": 1"));
+    for price in 0..6 {
+        prices.send(price).unwrap();
+    }
     drop(all);
+    // There is room again: these are kept, from a window in which 6 values are unread.
     prices.send(9).unwrap();
-    assert_eq!(chart.try_recv(), Ok(9));
+    assert_eq!(chart.try_recv(), Err(TryRecvError::Lagged(3)));
+    let late = prices.subscribe();
+    recorder.name(&late, "late");
+    assert_eq!(chart.try_recv(), Ok(3));
+    let (journal, names) = (recorder.journal().unwrap(), recorder.names());
+    let walk = Walk::open(journal.as_bytes()).unwrap();
+    let last = |before: u64| walk.entry(walk.len() - before).unwrap();
+    assert_eq!((last(3).reply(), last(3).returned()), ("sent", Some(1)));
+    assert_eq!((last(2).reply(), last(2).returned()), ("lagged", Some(3)));
+    // The values are numbered: 7 is 0, and 3 is 4.
+    assert_eq!((last(0).reply(), last(0).returned()), ("value", Some(4)));
+    assert!(member(&names, "unrecorded").is_empty());
+    assert!(member(&names, "handles").contains("\"late\""));
+    let window = &windows(&names)[1];
+    // A creation of 70,000, two sends before those and six after, two receives, and the drops.
+    assert_eq!(window.calls, 70_000 + 1 + 6 + 2 + 70_000);
+    // The channel was created with two handles, and the window has those alive.
+    assert_eq!(window.handles.iter().flatten().max(), Some(&70_002));
 }
 
 #[test]
-fn sixty_three_callers_have_numbers() {
+fn each_caller_has_its_name_also_where_several_share_a_number() {
     let recorder = Recorder::flight(1_000);
     let _entered = recorder.enter();
     let (prices, _chart) = broadcast::channel(4);
     let mut waits = Vec::new();
-    for number in 0..70 {
+    for number in 0..200 {
         let mut rx = prices.subscribe();
         let mut task = Box::pin(named(
             &format!("task {number}"),
@@ -271,9 +294,24 @@ fn sixty_three_callers_have_numbers() {
     for task in waits {
         block_on(task).unwrap();
     }
-    let actors = texts(member(&recorder.names(), "actors"));
-    assert_eq!(*actors.keys().max().unwrap(), 62);
+    let (journal, names) = (recorder.journal().unwrap(), recorder.names());
+    let actors = texts(member(&names, "actors"));
     assert!(actors[&62].ends_with("others"), "{}", actors[&62]);
+    let callers = callers(&names, 0);
+    let mut received = 0;
+    let calls = journal.lines().filter(|line| line.contains(" = "));
+    for (index, line) in (0..).zip(calls) {
+        let mut words = line.split(' ').skip(1);
+        let actor: u64 = words.next().unwrap().parse().unwrap();
+        let name = &actors[callers.get(&index).unwrap_or(&actor)];
+        // The task with the number 0 has the receiver 2.
+        if let Some((_, call)) = line.split_once(" recv ") {
+            let receiver: u32 = call.split(' ').next().unwrap().parse().unwrap();
+            assert_eq!(*name, format!("task {}", receiver - 2));
+            received += 1;
+        }
+    }
+    assert_eq!(received, 200);
 }
 
 #[test]

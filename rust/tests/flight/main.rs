@@ -4,6 +4,8 @@
 #[cfg(not(target_family = "wasm"))]
 mod dumps;
 mod last_calls;
+#[cfg(not(target_family = "wasm"))]
+mod night;
 mod past_limit;
 mod storm;
 #[path = "../support/mod.rs"]

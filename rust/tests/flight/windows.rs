@@ -1,6 +1,7 @@
 //! What the names beside a journal say of its window.
 
 use super::support::named::member;
+use super::support::parts::between;
 use std::collections::BTreeMap;
 
 /// How the window of a channel begins.
@@ -12,12 +13,6 @@ pub struct Window {
     /// By the journal's number of a handle, how many were created before.
     pub handles: Vec<Option<u64>>,
     pub lags: BTreeMap<u32, u64>,
-}
-
-/// Returns the text between two others.
-fn between<'a>(text: &'a str, start: &str, end: &str) -> &'a str {
-    let (_, rest) = text.split_once(start).unwrap();
-    rest.split_once(end).unwrap().0
 }
 
 fn number(text: &str) -> Option<u64> {
@@ -96,4 +91,28 @@ pub fn texts(object: &str) -> BTreeMap<u64, String> {
         )
     };
     parts.map(text).collect()
+}
+
+/// Returns the numbers of an object with numbers as keys.
+pub fn numbers(object: &str) -> BTreeMap<u64, u64> {
+    let parts = object.trim_matches(['{', '}']).split(", ");
+    let parts = parts.filter_map(|part| part.split_once(": "));
+    parts
+        .map(|(key, value)| {
+            (
+                key.trim_matches('"').parse().unwrap(),
+                value.parse().unwrap(),
+            )
+        })
+        .collect()
+}
+
+/// Returns, of a channel, the numbers of the callers whose actor stands for several, by how many
+/// entries of the channel are before.
+pub fn callers(names: &str, channel: usize) -> BTreeMap<u64, u64> {
+    let key = format!("\"{channel}\": {{");
+    let callers = member(names, "callers").split_once(&key);
+    callers.map_or_else(BTreeMap::new, |(_, rest)| {
+        numbers(rest.split('}').next().unwrap())
+    })
 }

@@ -208,8 +208,8 @@ fn a_file_that_cannot_be_written_whole_leaves_those_from_before() {
     let before = bytes_in(&folder);
     let files = ["race.html", "race.journal", "race.names"];
     assert_eq!(before.keys().collect::<Vec<_>>(), files);
-    // So many blocks of 512 bytes can a file have. The journal is the smallest, and the page the
-    // largest.
+    // A limit is how many blocks of 512 bytes a file can have. The journal is the smallest, and
+    // the page the largest.
     let [page, journal, names] = files.map(|file| before[file].len().div_ceil(512));
     assert!(journal < names && names < page);
     for limit in [0, journal, names, page - 1] {

@@ -28,7 +28,7 @@ impl Recorded {
         Recorded { journal, result }
     }
 
-    /// Replays the run so many times. Counts what came of it, and returns the first line of a
+    /// Replays the run `times` times. Counts what came of it, and returns the first line of a
     /// replay that left the order or the result.
     fn replay(&self, program: Program, times: u64) -> (Count, Option<String>) {
         let mut count = Count::default();
@@ -96,7 +96,7 @@ pub fn tells_the_truth(name: &str, program: Program) {
     }
 }
 
-/// Runs a program until it has failed once and passed once, and replays both runs so many times.
+/// Runs a program until it has failed once and passed once, and replays both runs `times` times.
 fn failed_and_passed(name: &str, program: Program, times: u64) -> [(Count, Option<String>); 2] {
     let wanted = count("YOVANELUM_FREE_RUNS", 0);
     let (mut failed, mut passed, mut failures) = (None, None, 0);

@@ -2,6 +2,7 @@
 #![allow(dead_code, unused_imports)]
 
 pub mod console;
+pub mod durations;
 pub mod named;
 pub mod parts;
 pub mod random;

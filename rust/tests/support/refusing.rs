@@ -140,7 +140,7 @@ static WHICH: AtomicU64 = AtomicU64::new(0);
 static REFUSED_OF_OTHERS: AtomicU64 = AtomicU64::new(0);
 
 /// Runs a closure, and refuses one request of the threads that aren't this one: of those that have
-/// at least so many bytes, the one after so many. Returns also how many were refused.
+/// at least `least` bytes, the one after `allowed` others. Returns also how many were refused.
 pub fn refusing_others<T>(least: usize, allowed: u64, run: impl FnOnce() -> T) -> (T, u64) {
     paused(|| {
         COUNTED.store(0, Ordering::SeqCst);

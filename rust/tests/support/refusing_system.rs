@@ -189,7 +189,7 @@ unsafe extern "C" fn write(file: c_int, from: *const c_void, count: usize) -> is
             return -1;
         }
     }
-    // SAFETY: the caller passes so many bytes.
+    // SAFETY: the caller passes `count` bytes.
     let moved = moved(file, unsafe {
         slice::from_raw_parts(from.cast::<u8>(), count)
     });

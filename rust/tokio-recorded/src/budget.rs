@@ -2,8 +2,12 @@
 //! where its version offers it, or else that of yovanelum, with which tasks are wrapped.
 
 use std::future::{Future, poll_fn};
+use std::panic::Location;
 use std::pin::pin;
 use std::task::{Context, Poll};
+
+/// Where a call is in the sources.
+pub(crate) type Place = &'static Location<'static>;
 
 /// In the place of tokio's `task::coop`, which versions before 1.44 don't have.
 mod coop {
@@ -73,19 +77,20 @@ pub(crate) fn tell() {
     }
 }
 
-/// Runs the future of a runtime that blocks on it. As in tokio, it has a budget too.
-pub(crate) async fn blocked_on<F: Future>(future: F) -> F::Output {
+/// Runs the future of a runtime that blocks on it here in the sources. As in tokio, it has a budget
+/// too.
+pub(crate) async fn blocked_on<F: Future>(future: F, at: Place) -> F::Output {
     if is_offered() {
-        held(future).await
+        held(future, at).await
     } else {
-        yovanelum::budgeted(held(future)).await
+        yovanelum::budgeted(held(future, at)).await
     }
 }
 
 /// Runs a future on which a thread blocks. A replay holds its polls back as those of tasks.
-pub(crate) async fn held<F: Future>(future: F) -> F::Output {
+pub(crate) async fn held<F: Future>(future: F, at: Place) -> F::Output {
     // Before the future, so that it is dropped after it.
-    let _blocked = yovanelum::BlockedOn::new();
+    let mut blocked = yovanelum::BlockedOn::new();
     let mut future = pin!(future);
     let mut seen = yovanelum::BlockedTask::default();
     let poll = |context: &mut Context<'_>| {
@@ -95,5 +100,7 @@ pub(crate) async fn held<F: Future>(future: F) -> F::Output {
             seen.poll(context, |context| future.as_mut().poll(context))
         }
     };
-    poll_fn(poll).await
+    let output = poll_fn(poll).await;
+    blocked.returns(&output, at);
+    output
 }

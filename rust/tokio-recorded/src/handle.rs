@@ -6,6 +6,7 @@ use real_tokio::runtime as theirs;
 use real_tokio::task::JoinHandle;
 use std::future::Future;
 use std::ops::Deref;
+use std::panic::Location;
 
 /// tokio's handle. It has the methods that are called most, and dereferences to tokio's own for
 /// others.
@@ -51,7 +52,7 @@ impl Handle {
     /// As tokio's own.
     #[track_caller]
     pub fn block_on<F: Future>(&self, future: F) -> F::Output {
-        self.0.block_on(blocked_on(future))
+        self.0.block_on(blocked_on(future, Location::caller()))
     }
 
     /// As tokio's own.

@@ -17,6 +17,7 @@ use real_tokio::task::JoinHandle;
 use std::future::Future;
 use std::io;
 use std::ops::{Deref, DerefMut};
+use std::panic::Location;
 use std::time::Duration;
 use yovanelum::follow_this_thread;
 
@@ -157,7 +158,8 @@ impl Runtime {
     /// As tokio's own.
     #[track_caller]
     pub fn block_on<F: Future>(&self, future: F) -> F::Output {
-        self.runtime.block_on(blocked_on(future))
+        self.runtime
+            .block_on(blocked_on(future, Location::caller()))
     }
 
     /// As tokio's own.

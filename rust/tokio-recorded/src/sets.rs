@@ -8,7 +8,7 @@ use real_tokio::task::{AbortHandle, JoinError, JoinHandle, LocalEnterGuard};
 use std::fmt;
 use std::future::Future;
 use std::ops::{Deref, DerefMut};
-use std::panic::resume_unwind;
+use std::panic::{Location, resume_unwind};
 use std::pin::Pin;
 use std::task::{Context, Poll};
 
@@ -177,7 +177,7 @@ impl LocalSet {
     /// As tokio's own.
     #[track_caller]
     pub fn block_on<F: Future>(&self, runtime: &Runtime, future: F) -> F::Output {
-        self.0.block_on(runtime, held(future))
+        self.0.block_on(runtime, held(future, Location::caller()))
     }
 
     /// As tokio's own.

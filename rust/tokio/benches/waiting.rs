@@ -19,7 +19,7 @@ fn waker() -> Waker {
 
 type Waiting<'a, R> = Pin<Box<dyn Future<Output = R> + 'a>>;
 
-/// Nanoseconds for each of so many, in which `run` takes place.
+/// Nanoseconds that `run` takes for each of `count` items.
 fn each(count: usize, run: impl FnOnce()) -> f64 {
     let start = Instant::now();
     run();

@@ -12,6 +12,7 @@
 //! | `message` | both | the event as one line |
 //! | `channel`, `channel_made_at`, `capacity` | both | the channel; a watch channel has no capacity |
 //! | `sender`, `sent_at` | both | who sent last, and where, if anything was sent |
+//! | `overwritten_by`, `overwritten_at` | lag | whose send overwrote the first lost value, and where, if a recorder keeps it |
 //! | `receiver`, `receiver_made_at` | lag | the receiver |
 //! | `received_at` | lag | where the receive was called |
 //! | `lost`, `lost_in_all` | lag | how many values the receiver has lost now, and since it was created |
@@ -95,6 +96,8 @@ pub fn lag(lag: &Lag) {
         unread = lag.unread(),
         sender = lag.sender(),
         sent_at = lag.sent_at().map(field::display),
+        overwritten_by = lag.overwritten_by(),
+        overwritten_at = lag.overwritten_at().map(field::display),
         "{lag}"
     );
 }

@@ -3,8 +3,10 @@
 //! `source` is the proved source with its contracts as comments. `shim` replaces Rattle's std by
 //! Rust's, and the kit's ports by the crates that they are ports of.
 
+mod ending;
 #[path = "../../src/core/large_pages.rs"]
 mod large_pages;
+mod refused;
 // It has what the sources call and no more.
 #[allow(clippy::new_without_default)]
 #[doc(hidden)]
@@ -15,7 +17,12 @@ pub mod shim;
 pub mod source;
 mod standard_streams;
 
+#[doc(hidden)]
+pub use ending::Ending;
+
 /// Runs the program on the process's words, files and streams, and returns its exit status.
 pub fn run() -> u8 {
-    source::rw_program::run(&shim::rt::HostRuntime, &mut std::io::stderr())
+    refused::taking_refusals(|| {
+        source::rw_program::run(&shim::rt::HostRuntime, &mut std::io::stderr())
+    })
 }

@@ -13,8 +13,8 @@
 //! # Where refused memory ends the process
 //!
 //! A refused allocation is an error, except where Rust's own library or one of the crates
-//! allocates. There it ends the process by `abort`, after Rust's message on standard error. What
-//! was written before is the front of the output.
+//! allocates. There it ends the process as the source would, with `no memory` on standard error and
+//! status 5 (`ending.rs`). What was written before is the front of the output.
 //!
 //! Before any output, in Rust's library:
 //!
@@ -71,7 +71,7 @@ pub mod serde_json;
 pub mod sync;
 pub mod thread;
 
-use crate::{large_pages, standard_streams};
+use crate::{large_pages, refused, standard_streams};
 
 pub use ::itoa;
 pub use boxed::Box;

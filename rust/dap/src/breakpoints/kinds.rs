@@ -2,7 +2,7 @@
 
 use super::{Asked, Breakpoints};
 use crate::arguments::Arguments;
-use crate::expression::{Thing, thing_of};
+use crate::expression::{Entity, thing_of};
 use crate::recording::{Places, Recording};
 use crate::sources::Bases;
 use crate::{Answer, Refusal};
@@ -124,10 +124,10 @@ fn places_of_function(name: &str, recording: &Recording) -> Result<Places, Strin
         return Err(format!("there is no `{head}` in this run"));
     }
     let places = recording.places_where(|place, entry| {
-        let is_of = |thing: &Thing| match *thing {
-            Thing::Actor(actor) => entry.actor() == actor,
-            Thing::Channel(channel) => entry.channel() == channel,
-            Thing::Receiver(channel, handle) => {
+        let is_of = |thing: &Entity| match *thing {
+            Entity::Actor(actor) => entry.actor() == actor,
+            Entity::Channel(channel) => entry.channel() == channel,
+            Entity::Receiver(channel, handle) => {
                 (entry.channel(), entry.handle()) == (channel, handle)
             }
         };
@@ -144,12 +144,12 @@ fn places_of_function(name: &str, recording: &Recording) -> Result<Places, Strin
 /// Returns whose calls, or the calls on what, a function's name is of: of the actor and of the
 /// channel that have the name, since receivers are called by their readers; or else of what it
 /// stands for.
-fn meant_by(head: &str, recording: &Recording) -> Vec<Thing> {
-    let actor = recording.things.actor(head).map(Thing::Actor);
+fn meant_by(head: &str, recording: &Recording) -> Vec<Entity> {
+    let actor = recording.things.actor(head).map(Entity::Actor);
     let mut channels = 0..recording.walk().channels();
     let channel = channels.find(|it| recording.names.channel(*it) == head);
     let mut meant: Vec<_> = actor.into_iter().collect();
-    meant.extend(channel.map(Thing::Channel));
+    meant.extend(channel.map(Entity::Channel));
     if meant.is_empty() {
         meant.extend(thing_of(head, recording));
     }

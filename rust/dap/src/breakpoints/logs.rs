@@ -1,13 +1,13 @@
 //! Log points: a text with expressions between braces, printed in either direction.
 
-use crate::expression::{Expression, Thing, thing_of};
+use crate::expression::{Entity, Expression, thing_of};
 use crate::recording::Recording;
 use crate::shown::text_of;
 use crate::{Answer, Refusal};
 
 enum Part {
     Text(String),
-    Thing(Thing),
+    Entity(Entity),
     Expression(Expression),
 }
 
@@ -30,7 +30,7 @@ impl Log {
                 .split_once('}')
                 .ok_or_else(|| Refusal::new("`}` is missing"))?;
             parts.push(match thing_of(inside.trim(), recording) {
-                Some(thing) => Part::Thing(thing),
+                Some(thing) => Part::Entity(thing),
                 None => Part::Expression(Expression::read(inside, recording)?),
             });
             rest = after;
@@ -44,7 +44,7 @@ impl Log {
         let Log(parts) = self;
         let texts = parts.iter().map(|part| match part {
             Part::Text(text) => text.clone(),
-            Part::Thing(thing) => text_of(*thing, recording),
+            Part::Entity(thing) => text_of(*thing, recording),
             Part::Expression(expression) => {
                 let value = expression.value(recording);
                 value.map_or("not there".to_string(), |value| value.to_string())

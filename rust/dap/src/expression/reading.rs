@@ -1,7 +1,7 @@
 //! Reads expressions.
 
 use super::tokens::{Token, split};
-use super::{Comparison, Expression, Field, Operand, Thing, Value, thing_of, unknown};
+use super::{Comparison, Entity, Expression, Field, Operand, Value, thing_of, unknown};
 use crate::recording::Recording;
 use crate::{Answer, Refusal};
 use std::iter::Peekable;
@@ -31,7 +31,7 @@ pub(super) fn read(text: &str, recording: &Recording) -> Answer<Expression> {
 
 fn shown(token: &Token) -> String {
     match token {
-        Token::Word(parts) => parts.join("."),
+        Token::Operation(parts) => parts.join("."),
         Token::Text(text) => text.clone(),
         Token::Sign(sign) => sign.to_string(),
     }
@@ -106,10 +106,10 @@ impl ExpressionReader<'_> {
         let is_followed = {
             let mut ahead = self.tokens.clone();
             ahead.next();
-            matches!(ahead.next(), Some(Token::Word(_)))
+            matches!(ahead.next(), Some(Token::Operation(_)))
         };
         let word = match self.tokens.peek() {
-            Some(Token::Word(parts)) if parts.len() == 1 && is_followed => parts[0].clone(),
+            Some(Token::Operation(parts)) if parts.len() == 1 && is_followed => parts[0].clone(),
             _ => return Ok(None),
         };
         let field = match word.as_str() {
@@ -128,12 +128,12 @@ impl ExpressionReader<'_> {
         self.tokens.next();
         let thing = match field {
             Field::Lag | Field::Unread | Field::Seen => self.receiver()?,
-            _ => Thing::Channel(self.channel()?),
+            _ => Entity::Channel(self.channel()?),
         };
         self.with_field(thing, field).map(Some)
     }
 
-    fn with_field(&mut self, thing: Thing, field: Field) -> Answer<Expression> {
+    fn with_field(&mut self, thing: Entity, field: Field) -> Answer<Expression> {
         let operand = Operand::Of(thing, field);
         match field {
             Field::Closed => Ok(Expression::Value(operand)),
@@ -156,24 +156,24 @@ impl ExpressionReader<'_> {
     fn of_call(&mut self, word: &str) -> Answer<Expression> {
         match word {
             "reply" => Ok(Expression::Replies(self.word()?)),
-            "channel" => Ok(Expression::Is(Thing::Channel(self.channel()?))),
+            "channel" => Ok(Expression::Is(Entity::Channel(self.channel()?))),
             _ => {
                 let name = self.word()?;
                 let known = match thing_of(&name, self.recording) {
                     // An actor may have the name of a receiver.
-                    Some(Thing::Actor(actor)) => Some(actor),
+                    Some(Entity::Actor(actor)) => Some(actor),
                     _ => self.recording.things.actor(&name),
                 };
                 let actor = known.or_else(|| name.parse().ok());
                 let actor = actor.ok_or_else(|| unknown(&name))?;
-                Ok(Expression::Is(Thing::Actor(actor)))
+                Ok(Expression::Is(Entity::Actor(actor)))
             }
         }
     }
 
     fn word(&mut self) -> Answer<String> {
         match self.tokens.next() {
-            Some(Token::Word(parts)) => Ok(parts.join(".")),
+            Some(Token::Operation(parts)) => Ok(parts.join(".")),
             Some(Token::Text(text)) => Ok(text),
             _ => Err(Refusal::new("a name is missing")),
         }
@@ -188,21 +188,21 @@ impl ExpressionReader<'_> {
     fn channel(&mut self) -> Answer<u32> {
         let name = self.word()?;
         match (thing_of(&name, self.recording), name.parse()) {
-            (Some(Thing::Channel(channel)), _) => Ok(channel),
+            (Some(Entity::Channel(channel)), _) => Ok(channel),
             (_, Ok(number)) if number < self.recording.walk().channels() => Ok(number),
             _ => Err(unknown(&name)),
         }
     }
 
     /// Reads a receiver by its name, or by the numbers of its channel and its handle.
-    fn receiver(&mut self) -> Answer<Thing> {
+    fn receiver(&mut self) -> Answer<Entity> {
         let name = self.word()?;
         match (thing_of(&name, self.recording), name.parse()) {
-            (Some(receiver @ Thing::Receiver(..)), _) => Ok(receiver),
+            (Some(receiver @ Entity::Receiver(..)), _) => Ok(receiver),
             (_, Ok(channel)) => {
                 let handle = self.number()?;
                 let handle = u32::try_from(handle).unwrap_or(u32::MAX);
-                Ok(Thing::Receiver(channel, handle))
+                Ok(Entity::Receiver(channel, handle))
             }
             _ => Err(unknown(&name)),
         }
@@ -211,7 +211,7 @@ impl ExpressionReader<'_> {
     fn operand(&mut self) -> Answer<Operand> {
         match self.tokens.next() {
             Some(Token::Text(text)) => Ok(Operand::Known(Value::Text(text))),
-            Some(Token::Word(parts)) => self.named(parts),
+            Some(Token::Operation(parts)) => self.named(parts),
             Some(Token::Sign(sign)) => Err(Refusal(format!("`{sign}` isn't expected there"))),
             None => Err(Refusal::new("an expression is missing")),
         }

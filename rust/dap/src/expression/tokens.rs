@@ -8,7 +8,7 @@ use std::str::Chars;
 pub(super) enum Token {
     /// A name or a number, with the parts after its points: `audit.lag`. A part may be between
     /// backquotes.
-    Word(Vec<String>),
+    Operation(Vec<String>),
     Text(String),
     /// An operator or a parenthesis.
     Sign(&'static str),
@@ -27,7 +27,7 @@ pub(super) fn split(text: &str) -> Answer<Vec<Token>> {
         match c {
             c if c.is_whitespace() => drop(chars.next()),
             '"' => tokens.push(Token::Text(quoted(&mut chars, '"')?)),
-            c if is_of_word(c) || c == '`' => tokens.push(Token::Word(parts(&mut chars)?)),
+            c if is_of_word(c) || c == '`' => tokens.push(Token::Operation(parts(&mut chars)?)),
             _ => tokens.push(sign(&mut chars)?),
         }
     }

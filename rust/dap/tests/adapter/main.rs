@@ -14,5 +14,6 @@ mod session;
 mod states;
 mod stops;
 mod support;
+mod tasks;
 mod vscode;
 mod windows;

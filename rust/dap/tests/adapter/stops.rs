@@ -118,6 +118,96 @@ fn a_function_of_an_actor_has_all_calls_that_it_makes() {
 }
 
 #[test]
+fn a_step_of_an_instruction_goes_to_each_call() {
+    let (_folder, mut client, _lines) = launched("start");
+    let one = json!({"threadId": TICKER, "granularity": "instruction"});
+    for place in (1..=9).chain([9]) {
+        client.go("next", one.clone());
+        assert_eq!(client.console("number"), place.to_string());
+    }
+    for place in (0..9).rev().chain([0]) {
+        client.go("stepBack", one.clone());
+        assert_eq!(client.console("number"), place.to_string());
+    }
+}
+
+#[test]
+fn of_many_calls_at_a_line_the_nearest_are_targets() {
+    let folder = Folder::new();
+    let recorder = Recorder::new();
+    let entered = recorder.enter();
+    let (orders, _audit) = broadcast::channel(4);
+    let line = line!() + 2;
+    for order in 1..=30 {
+        orders.send(order).unwrap();
+    }
+    drop(entered);
+    let journal = folder.path("orders.journal");
+    recorder.save(&journal).unwrap();
+    let package = std::env::var_os("CARGO_MANIFEST_DIR").unwrap();
+    let source = json!({"path": std::path::Path::new(&package).join(file!())});
+    for (place, first) in [("end", 11), ("start", 1)] {
+        let mut client = Client::new(false);
+        client.launch(json!({"journal": journal, "stopAt": place}));
+        let targets = client.ask("gotoTargets", json!({"source": source, "line": line}));
+        let targets = targets["targets"].as_array().unwrap().iter();
+        let places: Vec<_> = targets.map(|it| it["id"].as_u64().unwrap()).collect();
+        assert_eq!(places, (first..first + 20).collect::<Vec<_>>());
+    }
+}
+
+#[test]
+fn a_condition_of_two_parts_holds_where_both_hold() {
+    let (_folder, mut client, _lines) = launched("end");
+    let mut value = |text: &str| {
+        let given = json!({"expression": text, "context": "watch"});
+        client.ask("evaluate", given)["result"].clone()
+    };
+    assert_eq!(value("number > 1 || number > 2"), "true");
+    assert_eq!(value("number > 1 || number > 99"), "true");
+    assert_eq!(value("number > 98 || number > 99"), "false");
+}
+
+#[test]
+fn a_word_is_completed_up_to_the_cursor() {
+    let (_folder, mut client, _lines) = launched("end");
+    let given = json!({"text": "rback laggx", "column": 11});
+    let targets = client.ask("completions", given)["targets"].clone();
+    assert_eq!(targets, json!([{"label": "lagging", "length": 4}]));
+}
+
+#[test]
+fn what_is_left_to_receive_is_what_was_not_received() {
+    let (_folder, mut client, _lines) = launched("start");
+    // Call 5 is told that a value was lost, and the calls 6 and 7 receive the other two.
+    for (place, left) in [(5, &["[0]", "[1]"][..]), (6, &["[0]"]), (7, &[])] {
+        client.go("goto", json!({"threadId": AUDITOR, "targetId": place}));
+        let frame = client.frames(AUDITOR)[0]["id"].clone();
+        let scopes = client.ask("scopes", json!({"frameId": frame}));
+        let open = |client: &mut Client, group: &Value| {
+            let reference = &group["variablesReference"];
+            let opened = client.ask("variables", json!({"variablesReference": reference}));
+            opened["variables"].as_array().unwrap().clone()
+        };
+        let prices = open(&mut client, &scopes["scopes"][1]);
+        let auditor = open(&mut client, &prices[0]);
+        let mut fields = auditor.iter();
+        let group = fields.find(|it| it["name"] == "to receive").unwrap();
+        let values = match left {
+            [] => vec![],
+            _ => open(&mut client, group),
+        };
+        let names: Vec<_> = values
+            .iter()
+            .map(|it| it["name"].as_str().unwrap())
+            .collect();
+        assert_eq!(names, left, "at call {place}");
+        let last = values.last().map(|it| it["value"].as_str().unwrap());
+        assert!(last.is_none_or(|last| last == "\"103 EUR\""), "{values:?}");
+    }
+}
+
+#[test]
 fn frames_and_variables_are_of_one_stop() {
     let (_folder, mut client, _lines) = launched("cause");
     let frame = client.frames(TICKER)[0]["id"].clone();

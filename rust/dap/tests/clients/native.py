@@ -1,6 +1,6 @@
 """Has gdb stop a replay before each send of a journal, and looks there at the thread and at a variable of the test's own. `gdb -batch -x native.py`,
 with the variables ADAPTER, the program, SHOP, the package with the test, SAID, a file for what the replays say, FOUND, one for what was found, and EVERY: it
-stops before one in so many sends."""
+stops before one in that number of sends."""
 
 import json
 import os

@@ -30,7 +30,7 @@ const PROGRAM: &str = "YOVANELUM_NATURAL_PROGRAM";
 const SLEEPS: &str = "YOVANELUM_NATURAL_SLEEPS";
 const SECONDS: &str = "YOVANELUM_NATURAL_SECONDS";
 
-/// Runs a program in a process of its own, for so many seconds at most. Returns how many runs
+/// Runs a program in a process of its own, for `seconds` seconds at most. Returns how many runs
 /// failed, of how many.
 pub fn natural(name: &str, sleeps: bool, seconds: u64) -> String {
     let ran = Command::new(env::current_exe().unwrap())

@@ -11,6 +11,9 @@ use yovanelum::{Json, read_json};
 /// What the name of a journal has more if a replay has written it.
 const REPLAYED: &str = ".replayed";
 
+/// What it has more if it is of a run that passed.
+const PASSED: &str = ".passed";
+
 /// A journal of a test.
 #[derive(Clone, Debug)]
 pub struct FoundJournal {
@@ -58,6 +61,18 @@ impl FoundJournal {
     pub fn is_replayed(&self) -> bool {
         let stem = self.path.file_stem().unwrap_or_default().to_string_lossy();
         stem.ends_with(REPLAYED)
+    }
+
+    /// Whether it is of a run that passed.
+    pub fn has_passed(&self) -> bool {
+        let stem = self.path.file_stem().unwrap_or_default().to_string_lossy();
+        stem.ends_with(PASSED)
+    }
+
+    /// Returns the journal of the last run that passed, which may not be there.
+    pub fn passed(&self) -> PathBuf {
+        let stem = self.path.file_stem().unwrap_or_default().to_string_lossy();
+        self.path.with_file_name(format!("{stem}{PASSED}.journal"))
     }
 
     /// Returns cargo's words for the test alone.
@@ -121,8 +136,8 @@ fn folders(folder: &Path) -> Vec<PathBuf> {
         .collect()
 }
 
-/// Returns the last journal of the test that this word gives, and which others there are that it
-/// may also mean. Without a word, the last one of all.
+/// Returns the last journal of the test that this word gives, of a run that failed unless none has,
+/// and which others there are that it may also mean. Without a word, the last one of all.
 ///
 /// # Errors
 ///
@@ -133,6 +148,8 @@ pub fn last(
 ) -> Result<(FoundJournal, Vec<FoundJournal>), CommandFailed> {
     let mut found = all(workspace);
     found.retain(|journal| !journal.is_replayed() && word.is_none_or(|word| journal.is_of(word)));
+    // Both halves are in their order before.
+    found.sort_by_key(FoundJournal::has_passed);
     let mut found = found.into_iter();
     let Some(first) = found.next() else {
         let folder = workspace.own();

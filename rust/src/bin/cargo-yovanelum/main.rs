@@ -4,7 +4,7 @@
 mod journals;
 mod lacking;
 mod lock;
-#[path = "../../harness/facade/manifest.rs"]
+#[path = "../../harness/stand_in/manifest.rs"]
 mod manifest;
 mod run;
 mod signals;
@@ -24,28 +24,44 @@ use std::time::SystemTime;
 use words::Words;
 use workspace::{CommandFailed, Workspace};
 
+/// The variable by which the runs of tests that pass are kept.
+const KEEP_PASSED: &str = "YOVANELUM_KEEP_PASSED";
+
+/// The completions of each shell.
+const COMPLETIONS: [(&str, &str); 3] = [
+    ("bash", include_str!("completions/bash")),
+    ("zsh", include_str!("completions/zsh")),
+    ("fish", include_str!("completions/fish")),
+];
+
 /// The page, so that the installed command needs no other file.
 const PAGE: &[u8] = include_bytes!("../../../built/yovanelum.html");
 
 const USAGE: &str = "\
-CommandRun the tests of a package with tokio's broadcast and watch channels recorded
+Run the tests of a package with tokio's broadcast and watch channels recorded
 
 Usage: cargo yovanelum <COMMAND>
 
 Commands:
-  test [WORDS]        CommandRun `cargo test` with these words. A failing test says what its channels did
+  test [WORDS]        Run `cargo test` with these words. A failing test says what its channels did
   nextest [WORDS]     The same with `cargo nextest`, such as `nextest run`
   run [WORDS]         The same with `cargo run`
   replay <TEST>       Make the calls of its last failing run again, in their order
-  explore <TEST>      CommandRun it by many orders until one fails
+  explore <TEST>      Run it by many orders until one fails
+  diff <TEST>         Say where its last failing run differs from its last passing one
   list                List the tests that failed, the last one first
   why [TEST]          Print the report of a test, or the last one
   open [TEST]         Write the page that draws its run, and print where
   clean               Remove the reports, and what the command has written beside
+  completions <SHELL> Print the completions for bash, zsh or fish
 
 Options:
       --report-after <SECONDS>  Report a test that hasn't ended after this time [default: 60]
-      --runs <RUNS>             How many orders `explore` tries [default: 1000]
+      --short                   Leave the lines of the sources out of reports
+      --only <TEST>             Record this test alone. It may be given several times
+      --passing                 Keep the runs of tests that pass, too: `list --passing` lists them
+      --runs <RUNS>             How many orders `explore` tries [default: 1000], and how many runs
+                                `diff` waits for one that passes [default: 10]
   -h, --help                    Print help
   -V, --version                 Print version
 
@@ -92,9 +108,11 @@ fn begin(mut words: Vec<String>) -> Result<u8, CommandFailed> {
         },
         "replay" => replay(words),
         "explore" => explore(words),
-        "list" => list(&Words::of(words)),
+        "diff" => diff(words),
+        "list" => list(Words::of(words)),
         "why" | "open" => of_journal(verb, words),
         "clean" => clean(&Words::of(words)),
+        "completions" => completions(words),
         _ => Err(usage(format!("no such command: `{verb}`"))),
     }
 }
@@ -119,7 +137,21 @@ fn print(text: &str) -> Result<u8, CommandFailed> {
 /// The variables that an option of this command sets for the tests.
 fn variables(words: &mut Words) -> Vec<(&'static str, OsString)> {
     let after = words.take("--report-after");
-    Vec::from_iter(after.map(|seconds| ("YOVANELUM_REPORT_AFTER", seconds.into())))
+    let mut set = Vec::from_iter(after.map(|seconds| ("YOVANELUM_REPORT_AFTER", seconds.into())));
+    let mut only = vec![];
+    while let Some(test) = words.take("--only") {
+        only.push(test);
+    }
+    if !only.is_empty() {
+        set.push(("YOVANELUM_ONLY", only.join(",").into()));
+    }
+    if words.take_alone("--short") {
+        set.push(("YOVANELUM_SHORT", "1".into()));
+    }
+    if words.take_alone("--passing") {
+        set.push((KEEP_PASSED, "1".into()));
+    }
+    set
 }
 
 /// Runs cargo's command with the user's words, and says how many tests have left a report.
@@ -131,13 +163,14 @@ fn test(verb: &[&str], words: &[String]) -> Result<u8, CommandFailed> {
         verb,
         words,
         variables,
+        is_aside: false,
     };
     let (workspace, status) = run.start()?;
     keep_words(&workspace, &run.words);
     let reports = journals::all(&workspace);
     let count = reports
         .iter()
-        .filter(|journal| journal.written >= began)
+        .filter(|journal| journal.written >= began && !journal.has_passed())
         .count();
     if count > 0 {
         let tests = if count == 1 {
@@ -173,10 +206,20 @@ fn replay(words: &[String]) -> Result<u8, CommandFailed> {
     let (test, mut given) = named(words)?;
     let workspace = Workspace::without_packages(&given)?;
     let (journal, others) = journals::last(&workspace, Some(test))?;
+    if journal.has_passed() {
+        return Err(never_failed(&journal));
+    }
     say_others(&journal, &others);
     let mut variables = variables(&mut given);
     variables.push(("YOVANELUM_REPLAY", journal.path.clone().into()));
-    run_alone(&workspace, &journal.test, journal.words(), given, variables)
+    alone(&workspace, &journal.test, journal.words(), given, variables).status()
+}
+
+fn never_failed(journal: &FoundJournal) -> CommandFailed {
+    CommandFailed {
+        line: Some(format!("no run of {} has failed", journal.test)),
+        status: 4,
+    }
 }
 
 /// Says which of several tests is meant.
@@ -194,14 +237,14 @@ fn shown(journal: &FoundJournal) -> String {
     format!("{} ({})", journal.test, journal.words().join(" "))
 }
 
-/// Runs a test alone, built as in the run before.
-fn run_alone(
+/// Returns the run of a test alone, built as in the run before.
+fn alone<'a>(
     workspace: &Workspace,
     test: &str,
     target: Vec<String>,
     given: Words,
-    variables: Vec<(&str, OsString)>,
-) -> Result<u8, CommandFailed> {
+    variables: Vec<(&'a str, OsString)>,
+) -> CommandRun<'a> {
     let kept = fs::read_to_string(kept_words(workspace)).unwrap_or_default();
     let mut words = Words {
         before: kept.lines().map(str::to_string).collect(),
@@ -210,12 +253,12 @@ fn run_alone(
     words.before.extend(target);
     words.before.extend(given.before);
     words.behind.extend(given.behind.into_iter().skip(1));
-    let run = CommandRun {
+    CommandRun {
         verb: &["test"],
         words,
         variables,
-    };
-    run.start().map(|(_, status)| status)
+        is_aside: false,
+    }
 }
 
 /// Runs a test by many orders.
@@ -228,23 +271,83 @@ fn explore(words: &[String]) -> Result<u8, CommandFailed> {
     match journals::last(&workspace, Some(test)) {
         Ok((journal, others)) => {
             say_others(&journal, &others);
-            run_alone(&workspace, &journal.test, journal.words(), given, variables)
+            alone(&workspace, &journal.test, journal.words(), given, variables).status()
         }
         // One that has never failed is run wherever there is one of this path.
-        Err(_) => run_alone(&workspace, test, vec![], given, variables),
+        Err(_) => alone(&workspace, test, vec![], given, variables).status(),
     }
 }
 
-/// Lists the tests that have left a report.
-fn list(words: &Words) -> Result<u8, CommandFailed> {
-    let workspace = Workspace::without_packages(words)?;
+/// Prints which call of the last failing run of a test differs first from its last passing run. If
+/// none was kept, the test is run until it passes.
+fn diff(words: &[String]) -> Result<u8, CommandFailed> {
+    let (test, mut given) = named(words)?;
+    let runs = given.take("--runs").unwrap_or_else(|| "10".to_string());
+    let runs: u64 = runs
+        .parse()
+        .map_err(|_| usage(format!("`{runs}` is no number of runs")))?;
+    let json = given.take_alone("--json").then_some("--json");
+    let workspace = Workspace::without_packages(&given)?;
+    let (journal, others) = journals::last(&workspace, Some(test))?;
+    say_others(&journal, &others);
+    if journal.has_passed() {
+        return Err(never_failed(&journal));
+    }
+    let passed = journal.passed();
+    let variables = variables(&mut given);
+    pass(&workspace, &journal, (given, variables), runs)?;
+    let mut all = vec!["why".into(), journal.path.clone().into_os_string()];
+    all.extend(["--against".into(), passed.into_os_string()]);
+    all.extend(json.map(OsString::from));
+    let mut out = io::stdout().lock();
+    Ok(yovanelum::command(all, PAGE, &mut out, &mut io::stderr()))
+}
+
+/// Runs a test until there is a run that passed, as many times as are wanted.
+fn pass(
+    workspace: &Workspace,
+    journal: &FoundJournal,
+    (given, variables): (Words, Vec<(&str, OsString)>),
+    runs: u64,
+) -> Result<(), CommandFailed> {
+    let mut run = alone(workspace, &journal.test, journal.words(), given, variables);
+    run.variables.push((KEEP_PASSED, "1".into()));
+    run.is_aside = true;
+    for _ in 0..runs {
+        if journal.passed().is_file() {
+            return Ok(());
+        }
+        run.start()?;
+    }
+    if journal.passed().is_file() {
+        return Ok(());
+    }
+    let line = format!(
+        "no run of {} has passed yet, and none of {runs} did now",
+        journal.test
+    );
+    Err(CommandFailed {
+        line: Some(line),
+        status: 4,
+    })
+}
+
+/// Lists the tests that have left a report, or those too whose passing runs are kept.
+fn list(mut words: Words) -> Result<u8, CommandFailed> {
+    let has_passing = words.take_alone("--passing");
+    let workspace = Workspace::without_packages(&words)?;
     let journals = journals::all(&workspace);
     let lines = journals
         .iter()
-        .filter(|journal| !journal.is_replayed())
+        .filter(|journal| !journal.is_replayed() && (has_passing || !journal.has_passed()))
         .map(|journal| {
             let age = journal.written.elapsed().unwrap_or_default().as_secs();
-            format!("{}, {}: {}\n", shown(journal), ago(age), journal.failed)
+            let end = if journal.has_passed() {
+                "passed"
+            } else {
+                &journal.failed
+            };
+            format!("{}, {}: {end}\n", shown(journal), ago(age))
         });
     print(&lines.collect::<String>())
 }
@@ -271,10 +374,29 @@ fn of_journal(verb: &str, words: &[String]) -> Result<u8, CommandFailed> {
     let form = given
         .before
         .iter()
-        .filter(|word| forms.contains(&word.as_str()));
-    all.extend(form.map(OsString::from));
+        .find(|word| forms.contains(&word.as_str()));
+    let is_short = given.before.iter().any(|word| word == "--short");
+    match form {
+        Some(form) => all.push(form.into()),
+        None if verb == "why" && !is_short => all.push("--sources".into()),
+        None => {}
+    }
     let mut out = io::stdout().lock();
     Ok(yovanelum::command(all, PAGE, &mut out, &mut io::stderr()))
+}
+
+/// Prints the completions for a shell.
+fn completions(words: &[String]) -> Result<u8, CommandFailed> {
+    let [shell] = words else {
+        return Err(usage("`completions` needs the name of a shell".to_string()));
+    };
+    let found = COMPLETIONS.iter().find(|(name, _)| name == shell);
+    match found {
+        Some((_, script)) => print(script),
+        None => Err(usage(format!(
+            "there are completions for bash, zsh and fish, and none for `{shell}`"
+        ))),
+    }
 }
 
 /// Removes all that this crate has written into the folder of the build.

@@ -18,6 +18,9 @@ pub struct CommandRun<'a> {
     pub words: Words,
     /// What is set for it beside.
     pub variables: Vec<(&'a str, OsString)>,
+    /// Whether standard output is for what this command prints. Then cargo's goes to standard
+    /// error.
+    pub is_aside: bool,
 }
 
 impl CommandRun<'_> {
@@ -56,6 +59,15 @@ impl CommandRun<'_> {
         Ok((workspace, code(status)))
     }
 
+    /// Runs the command, and returns its status.
+    ///
+    /// # Errors
+    ///
+    /// Returns an error as [`start`](CommandRun::start) does.
+    pub fn status(&self) -> Result<u8, CommandFailed> {
+        self.start().map(|(_, status)| status)
+    }
+
     fn cargo(&self, config: Option<PathBuf>) -> std::io::Result<ExitStatus> {
         let mut command = Command::new(cargo());
         command.args(self.verb);
@@ -70,6 +82,9 @@ impl CommandRun<'_> {
         command.args(&self.words.behind).env(COMMAND, "1");
         for (name, value) in &self.variables {
             command.env(name, value);
+        }
+        if self.is_aside {
+            command.stdout(std::io::stderr());
         }
         if signals::has_come() {
             return Err(std::io::Error::from(std::io::ErrorKind::Interrupted));

@@ -92,6 +92,13 @@ impl Words {
         }
     }
 
+    /// Removes an option without a value, which is this command's, and returns whether it was
+    /// there.
+    pub fn take_alone(&mut self, name: &str) -> bool {
+        let at = self.before.iter().position(|word| word == name);
+        at.map(|at| self.before.remove(at)).is_some()
+    }
+
     /// Returns the options by which `cargo metadata` sees the same workspace.
     pub fn of_metadata(&self) -> Vec<String> {
         self.options(&OF_METADATA, &OF_METADATA)

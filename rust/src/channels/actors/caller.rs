@@ -29,8 +29,8 @@ pub(super) const NOT_CACHED: CachedActor = CachedActor {
 
 /// The number of a caller in this process, which no other has: that of a named future, or of a
 /// thread.
-#[derive(Clone, Copy, PartialEq, Eq)]
-pub(crate) struct CallerNumber(u64);
+#[derive(Clone, Copy, PartialEq, Eq, Hash)]
+pub(crate) struct CallerNumber(pub(super) u64);
 
 impl CallerNumber {
     /// The number of no caller.
@@ -59,9 +59,9 @@ thread_local! {
 }
 
 /// Returns the number of the task that the current thread polls.
-type TaskId = fn() -> Option<u64>;
+pub(super) type TaskId = fn() -> Option<u64>;
 
-static TASK_ID: OnceLock<TaskId> = OnceLock::new();
+pub(super) static TASK_ID: OnceLock<TaskId> = OnceLock::new();
 
 /// Sets the function that returns the number of the task which the current thread runs, or `None`
 /// if it runs none.
@@ -162,20 +162,24 @@ fn current_by_task(recorder: u64, find: impl FnOnce(Option<u64>) -> Actor) -> Ac
     actor
 }
 
-/// Whether the current caller is the one with this number, and no runtime tells tasks of one thread
-/// apart.
-#[inline(always)]
-pub(crate) fn is_current_caller(number: CallerNumber) -> bool {
-    CALLER.get() == number && TASK_ID.get().is_none()
+/// Returns the number of the current caller.
+pub(crate) fn own_number() -> CallerNumber {
+    if CALLER.get() == CallerNumber::NONE_YET {
+        CALLER.set(CallerNumber::next());
+    }
+    CALLER.get()
+}
+
+/// Returns the name of the current caller, of those that share a number: that of the future, or
+/// else of the thread.
+pub(crate) fn name_of_sharing() -> Arc<str> {
+    of_future().unwrap_or_else(|| name_of_thread().into())
 }
 
 /// Writes the name of the current caller over another one, unless it is the name of the caller with
 /// this number already. Returns the number of the current caller.
 pub(crate) fn write_caller(before: CallerNumber, name: &mut String) -> CallerNumber {
-    if CALLER.get() == CallerNumber::NONE_YET {
-        CALLER.set(CallerNumber::next());
-    }
-    let number = CALLER.get();
+    let number = own_number();
     let task = current_task();
     if number == before && task.is_none() {
         return number;

@@ -10,8 +10,9 @@ use crate::channels::handle::Kind;
 use crate::channels::of_version::only_if_tokio_has;
 use crate::channels::recorder::{Handle, RecordedHandle, TextOf};
 use crate::channels::wait::{Method, Pending, WaitFor};
+use crate::channels::wakers::WakeAtEnd;
+use crate::run::operation::Operation;
 use crate::run::reply::Reply;
-use crate::run::word::Word;
 use std::fmt;
 use std::future::Future;
 use std::task::{Context, Poll};
@@ -21,7 +22,9 @@ use std::task::{Context, Poll};
 /// It gets a clone of each value that is sent while it is alive, in the order of the sends, unless
 /// it lags. As in tokio, it is not `Clone`: [`Sender::subscribe`](super::Sender::subscribe) and
 /// [`resubscribe`](Receiver::resubscribe) create receivers. When it is dropped, the values that it
-/// alone had yet to receive are dropped too.
+/// alone had yet to receive are dropped too, and then the futures that wait in
+/// [`closed`](super::Sender::closed) are woken. If the drop of a value panics, the others are
+/// dropped all the same, where tokio keeps them until they are overwritten.
 ///
 /// # Examples
 ///
@@ -71,7 +74,7 @@ impl<T> Receiver<T> {
     #[track_caller]
     pub fn len(&self) -> usize {
         self.handle.ask_count(
-            Word::ReceiverLen,
+            Operation::ReceiverLen,
             CoreChannel::broadcast_receiver_len,
             |core, rx| core.unread(rx),
         )
@@ -221,7 +224,7 @@ impl<T: Clone> Receiver<T> {
         Receiver {
             handle: self.handle.create(
                 Kind::Receiver,
-                Word::Resubscribe,
+                Operation::Resubscribe,
                 CoreChannel::broadcast_resubscribe,
             ),
         }
@@ -284,7 +287,7 @@ impl<T: Clone> Receiver<T> {
     async fn recv_by(&mut self, method: Method) -> Result<T, RecvError> {
         let received = self
             .handle
-            .wait(WaitFor::Value, Word::Recv, method, |channel| {
+            .wait(WaitFor::Value, Operation::Recv, method, |channel| {
                 self.attempt_recv(channel)
             });
         received_by(received.await)
@@ -304,7 +307,7 @@ impl<T: Clone> Receiver<T> {
         };
         let received = self.handle.poll_wait(
             WaitFor::Value,
-            Word::Recv,
+            Operation::Recv,
             method,
             pending,
             context,
@@ -339,7 +342,7 @@ impl<T: Clone> Receiver<T> {
     /// ```
     #[track_caller]
     pub fn try_recv(&mut self) -> Result<T, TryRecvError> {
-        let mut channel = self.handle.lock(Word::TryRecv, call_site());
+        let mut channel = self.handle.lock(Operation::TryRecv, call_site());
         let reply = channel.call(CoreChannel::broadcast_try_recv);
         if let Reply::Lagged(lost) = reply {
             let event = channel.note_lag(self.handle.slot, lost);
@@ -348,9 +351,10 @@ impl<T: Clone> Receiver<T> {
             return Err(TryRecvError::Lagged(lost));
         }
         let number = reply.received_at_once()?;
-        channel.note_receive(self.handle.slot);
+        let slot = self.handle.slot;
+        channel.note_receive(slot);
         let value = self.received_value(&mut channel, number);
-        channel.unlock();
+        channel.unlock_without_wait(slot);
         Ok(value.cloned())
     }
 
@@ -397,7 +401,7 @@ fn received_by<T: Clone>(received: Received<T>) -> Result<T, RecvError> {
 
 impl<T> Drop for Receiver<T> {
     fn drop(&mut self) {
-        let mut channel = self.handle.lock(Word::Drop, None);
+        let mut channel = self.handle.lock(Operation::Drop, None);
         let values = &self.handle.channel.values;
         let unread = if values.borrow_mut(&mut channel.state).has_unread() {
             channel.core().unread(self.handle.number)
@@ -408,8 +412,10 @@ impl<T> Drop for Receiver<T> {
         let (wakers, _) = channel.drop_handle(Kind::Receiver, slot, CoreChannel::broadcast_drop);
         let unwanted = values.borrow_mut(&mut channel.state).drop_receiver(unread);
         drop(channel);
-        wakers.wake();
+        // Whoever waits for this finds the values dropped, and is woken also if such a drop panics.
+        let wakers = WakeAtEnd(wakers);
         drop(unwanted);
+        drop(wakers);
     }
 }
 

@@ -7,7 +7,8 @@ use crate::channels::handle::Kind;
 use crate::channels::of_version::only_if_tokio_has;
 use crate::channels::recorder::{Handle, RecordedHandle, TextOf};
 use crate::channels::wait::{Method, WaitFor};
-use crate::run::word::Word;
+use crate::core::source::rw_waiting::Notice;
+use crate::run::operation::Operation;
 use std::fmt;
 use std::future::Future;
 use std::task::Poll;
@@ -121,7 +122,7 @@ impl<T> Sender<T> {
     #[inline(always)]
     #[track_caller]
     fn send_with(&self, value: T, text: Option<String>) -> Result<usize, SendError<T>> {
-        let mut channel = self.handle.lock(Word::Send, call_site());
+        let mut channel = self.handle.lock(Operation::Send, call_site());
         let (number, reply) = channel.send(text, CoreChannel::broadcast_send);
         let Some(receivers) = reply.sent() else {
             return Err(SendError(value));
@@ -129,7 +130,7 @@ impl<T> Sender<T> {
         let values = self.handle.channel.values.borrow_mut(&mut channel.state);
         let overwritten = values.push(number, value, receivers);
         // As in tokio, the overwritten value is dropped before those who wait are woken.
-        channel.unlock_drop_and_wake(overwritten, WaitFor::Value);
+        channel.unlock_drop_and_wake(overwritten, Notice::Sent);
         Ok(receivers as usize)
     }
 
@@ -156,7 +157,7 @@ impl<T> Sender<T> {
         Receiver {
             handle: self.handle.create(
                 Kind::Receiver,
-                Word::Subscribe,
+                Operation::Subscribe,
                 CoreChannel::broadcast_subscribe,
             ),
         }
@@ -187,7 +188,7 @@ impl<T> Sender<T> {
         WeakSender {
             handle: self.handle.create(
                 Kind::WeakSender,
-                Word::Downgrade,
+                Operation::Downgrade,
                 CoreChannel::broadcast_downgrade,
             ),
         }
@@ -217,7 +218,7 @@ impl<T> Sender<T> {
     pub fn len(&self) -> usize {
         only_if_tokio_has!("broadcast::Sender::len");
         self.handle.ask_count(
-            Word::SenderLen,
+            Operation::SenderLen,
             CoreChannel::broadcast_sender_len,
             |core, _| core.queued(),
         )
@@ -262,7 +263,7 @@ impl<T> Sender<T> {
     #[track_caller]
     pub fn receiver_count(&self) -> usize {
         self.handle.ask_count(
-            Word::ReceiverCount,
+            Operation::ReceiverCount,
             CoreChannel::broadcast_receiver_count,
             |core, _| core.receivers(),
         )
@@ -308,14 +309,18 @@ impl<T> Sender<T> {
     pub fn closed(&self) -> impl Future<Output = ()> {
         only_if_tokio_has!("broadcast::Sender::closed");
         let method = Method::called("closed");
-        self.handle
-            .wait(WaitFor::NoReceiver, Word::NoReceiver, method, |channel| {
+        self.handle.wait(
+            WaitFor::NoReceiver,
+            Operation::NoReceiver,
+            method,
+            |channel| {
                 if channel.core().receivers() > 0 {
                     return Poll::Pending;
                 }
                 channel.call_that_waits(CoreChannel::broadcast_receiver_count);
                 Poll::Ready(())
-            })
+            },
+        )
     }
 
     /// Returns the number of senders that are alive, as in tokio. Weak senders are not counted. It
@@ -365,7 +370,7 @@ impl<T> Clone for Sender<T> {
         Sender {
             handle: self.handle.create(
                 Kind::Sender,
-                Word::CloneSender,
+                Operation::CloneSender,
                 CoreChannel::broadcast_clone_sender,
             ),
         }

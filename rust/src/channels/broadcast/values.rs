@@ -17,15 +17,6 @@ pub(super) enum Value<T> {
 }
 
 impl<T> Value<T> {
-    /// Returns a value that is sent to this many receivers.
-    #[inline(always)]
-    fn sent_to(receivers: u64, value: T) -> Value<T> {
-        match receivers {
-            1 => Value::Own(value),
-            _ => Value::Shared(Arc::new(Reentrant::new(value))),
-        }
-    }
-
     /// Returns the value for one of several receivers.
     #[inline(always)]
     fn share(&self) -> Value<T> {
@@ -64,8 +55,11 @@ impl<T> Values<T> {
     #[inline(always)]
     pub(super) fn push(&mut self, number: u64, value: T, receivers: u64) -> Option<Value<T>> {
         self.0.ready().unwrap_or_else(no_memory);
-        self.0
-            .put(number, Value::sent_to(receivers, value), receivers)
+        let value = match receivers {
+            1 => Value::Own(value),
+            _ => Value::Shared(Arc::new(Reentrant::new(value))),
+        };
+        self.0.put(number, value, receivers)
     }
 
     /// Returns the value with this number, for a receiver that has yet to receive it.

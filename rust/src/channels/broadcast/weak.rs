@@ -4,7 +4,7 @@ use super::{BroadcastHandle, Sender};
 use crate::channels::channel::{CoreChannel, call_site};
 use crate::channels::handle::Kind;
 use crate::channels::recorder::{Handle, RecordedHandle, TextOf};
-use crate::run::word::Word;
+use crate::run::operation::Operation;
 use std::fmt;
 
 /// A sender that does not keep the channel open.
@@ -59,7 +59,7 @@ impl<T> WeakSender<T> {
     pub fn upgrade(&self) -> Option<Sender<T>> {
         let (reply, slot) = self
             .handle
-            .lock(Word::Upgrade, call_site())
+            .lock(Operation::Upgrade, call_site())
             .create(Kind::Sender, CoreChannel::broadcast_upgrade);
         let number = reply.upgraded()?;
         Some(Sender {
@@ -112,7 +112,7 @@ impl<T> Clone for WeakSender<T> {
         WeakSender {
             handle: self.handle.create(
                 Kind::WeakSender,
-                Word::CloneWeak,
+                Operation::CloneWeak,
                 CoreChannel::broadcast_clone_weak,
             ),
         }

@@ -3,8 +3,8 @@
 use super::{CallSite, LockedChannel, RecordedChannel};
 use crate::channels::budget;
 use crate::channels::lock::lock;
-use crate::channels::turns::{Coming, OrderedChannel, Permit, Ticket};
-use crate::run::word::Word;
+use crate::channels::turns::{ArrivingCall, OrderedChannel, Permit, Ticket};
+use crate::run::operation::Operation;
 use std::task::{Context, Poll};
 
 impl RecordedChannel {
@@ -13,9 +13,9 @@ impl RecordedChannel {
     fn at_gate(
         &self,
         handle: u32,
-        word: Word,
+        word: Operation,
         called_at: CallSite,
-    ) -> Option<(&OrderedChannel, Coming)> {
+    ) -> Option<(&OrderedChannel, ArrivingCall)> {
         let ordered = self.ordered.as_ref()?;
         if word.makes().is_some() && ordered.turns().follows_journal() {
             self.end_if_all_are_named();
@@ -38,9 +38,15 @@ impl RecordedChannel {
         lock(&self.state).core.unread(handle) > 0
     }
 
-    /// As [`pass`](RecordedChannel::pass), in a replay.
+    /// Blocks until the turn of a call by the handle with this number, which is made here in the
+    /// source, in a replay. It is called before any lock is acquired, that of a watch's value too.
     #[cold]
-    fn pass_gate(&self, handle: u32, word: Word, called_at: CallSite) -> Option<Permit<'_>> {
+    pub(crate) fn pass_gate(
+        &self,
+        handle: u32,
+        word: Operation,
+        called_at: CallSite,
+    ) -> Option<Permit<'_>> {
         match self.at_gate(handle, word, called_at) {
             Some((ordered, coming)) => ordered.pass(coming, &|| self.has_unread(handle)),
             None => None,
@@ -52,7 +58,7 @@ impl RecordedChannel {
     fn poll_gate(
         &self,
         handle: u32,
-        word: Word,
+        word: Operation,
         called_at: CallSite,
         ticket: &mut Option<Ticket>,
         context: &Context<'_>,
@@ -65,21 +71,10 @@ impl RecordedChannel {
         }
     }
 
-    /// Blocks until the turn of a call by the handle with this number, which is made here in the
-    /// source. It is called before any lock is acquired, that of a watch's value too.
-    #[cfg_attr(debug_assertions, inline(never))]
-    #[cfg_attr(not(debug_assertions), inline)]
-    pub(crate) fn pass(&self, handle: u32, word: Word, called_at: CallSite) -> Option<Permit<'_>> {
-        match self.ordered {
-            Some(_) => self.pass_gate(handle, word, called_at),
-            None => None,
-        }
-    }
-
     /// Blocks until the turn of the first call that a closure which changes a watch makes, or of
     /// the change if it makes none. The change itself then waits for its own turn.
     pub(crate) fn pass_to_modify(&self, handle: u32, called_at: CallSite) {
-        if let Some((ordered, coming)) = self.at_gate(handle, Word::Modify, called_at) {
+        if let Some((ordered, coming)) = self.at_gate(handle, Operation::Modify, called_at) {
             ordered.turns().pass_to_modify(coming);
         }
     }
@@ -90,7 +85,7 @@ impl RecordedChannel {
     pub(crate) fn poll_pass(
         &self,
         handle: u32,
-        word: Word,
+        word: Operation,
         called_at: CallSite,
         ticket: &mut Option<Ticket>,
         context: &Context<'_>,
@@ -112,7 +107,7 @@ impl RecordedChannel {
     /// Whether questions leave no entry. A replay, which doesn't order them then, notes that this
     /// one is asked here in the source.
     #[inline]
-    pub(crate) fn is_quiet(&self, handle: u32, word: Word, called_at: CallSite) -> bool {
+    pub(crate) fn is_quiet(&self, handle: u32, word: Operation, called_at: CallSite) -> bool {
         let is_quiet = self.recorder.is_quiet();
         if is_quiet && self.ordered.is_some() {
             self.note_question(handle, word, called_at);
@@ -121,7 +116,7 @@ impl RecordedChannel {
     }
 
     #[cold]
-    fn note_question(&self, handle: u32, word: Word, called_at: CallSite) {
+    fn note_question(&self, handle: u32, word: Operation, called_at: CallSite) {
         if let Some((ordered, coming)) = self.at_gate(handle, word, called_at) {
             ordered.turns().note_question(coming);
         }

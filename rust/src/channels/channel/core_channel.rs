@@ -85,7 +85,7 @@ impl CoreChannel {
     }
 
     /// Takes the dropped handles out of the table of a channel that keeps its last calls, if they
-    /// are many: with a chunk of so many calls, or where the table is full. The calls before are
+    /// are many: with a chunk of `chunk` calls, or where the table is full. The calls before are
     /// kept by the previous numbers. Returns the numbers that the others had, or `None` if nothing
     /// was taken out.
     pub(crate) fn renumber_last(&mut self, chunk: Option<usize>) -> Option<CoreVec<u32>> {

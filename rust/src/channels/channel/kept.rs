@@ -6,8 +6,8 @@ use crate::channels::backend::{Kept, MOST_CHUNK};
 use crate::channels::wait::Wait;
 use crate::core::source::rw_law::NoMemory;
 use crate::run::clock::Times;
-use crate::run::names::Maker;
-use std::collections::BTreeMap;
+use crate::run::numbered::NumberMap;
+use crate::run::sidecar::Maker;
 
 /// A copy of a channel's last calls.
 pub(crate) struct KeptChannel {
@@ -23,7 +23,7 @@ pub(crate) struct NotedChannel {
     pub(crate) name: Option<String>,
     pub(crate) made_by: Option<Maker>,
     /// The names of handles, by how many were created before.
-    pub(crate) names: BTreeMap<u64, String>,
+    pub(crate) names: NumberMap<u64, String>,
     /// The calls that wait, each with its handle.
     pub(crate) waits: Vec<(u32, Wait)>,
     /// Whether it is a watch.
@@ -45,12 +45,12 @@ impl KeptChannel {
 }
 
 impl NotedChannel {
-    /// How many calls were made before the last ones, which are so many.
+    /// How many calls were made before the last `last` calls.
     pub(crate) fn before(&self, last: u64) -> u64 {
         self.calls.count.saturating_sub(last)
     }
 
-    /// Returns where the last calls were made, which are so many. The first ones may not be known.
+    /// Returns where the last `last` calls were made. The first ones may not be known.
     pub(crate) fn sites(&self, last: u64) -> impl Iterator<Item = CallSite> {
         let (calls, sites) = (last as usize, &self.calls.sites);
         let unknown = calls.saturating_sub(sites.len());
@@ -58,18 +58,20 @@ impl NotedChannel {
         std::iter::repeat_n(None, unknown).chain(known.iter().copied())
     }
 
-    /// Returns the name of a handle, before which so many were created.
+    /// Returns the name of the handle before which `nth` others were created.
     pub(crate) fn name_of(&self, nth: u64) -> Option<&String> {
         self.names.get(&nth)
     }
 }
 
 impl ChannelState {
-    /// Keeps the last calls alone, from the opening on. The channel was opened now, and no call was
-    /// made. At an error nothing has changed.
-    pub(crate) fn fly(&mut self, chunk: usize, times: Times) -> Result<(), NoMemory> {
+    /// Keeps the last calls alone, from the opening on: `calls` of them, or a fourth of how many
+    /// values are retained, if that is more, since each chunk copies those. The channel was opened
+    /// now, and no call was made. At an error nothing has changed.
+    pub(crate) fn fly(&mut self, calls: usize, times: Times) -> Result<(), NoMemory> {
+        let chunk = calls.max(self.retained_capacity() / 4);
         self.core.fly(chunk)?;
-        self.set_last_calls(chunk, times);
+        self.set_last_calls(chunk, times, true);
         Ok(())
     }
 
@@ -78,15 +80,17 @@ impl ChannelState {
     pub(crate) fn keep_last(&mut self, times: Times) -> Result<(), NoMemory> {
         if self.is_recorded && self.keeps_all {
             self.core.keep_last(MOST_CHUNK)?;
-            self.set_last_calls(MOST_CHUNK, times);
+            self.set_last_calls(MOST_CHUNK, times, false);
         }
         Ok(())
     }
 
     /// Notes the last calls by their chunks, from what is known of all calls.
-    fn set_last_calls(&mut self, chunk: usize, times: Times) {
+    fn set_last_calls(&mut self, chunk: usize, times: Times, is_of_flight: bool) {
         let capacity = self.retained_capacity();
-        self.last_calls = Some(Box::new(self.noted(chunk, capacity, times)));
+        let mut noted = self.noted(chunk, capacity, times);
+        noted.begin(is_of_flight, self.sent_count());
+        self.last_calls = Some(Box::new(noted));
         self.keeps_all = false;
         self.locations = Default::default();
         self.texts = Default::default();
@@ -96,7 +100,7 @@ impl ChannelState {
     }
 
     /// How many values the channel retains at most.
-    fn retained_capacity(&self) -> usize {
+    pub(super) fn retained_capacity(&self) -> usize {
         let capacity = self.core.capacity();
         capacity.map_or(1, usize::next_power_of_two)
     }
@@ -112,11 +116,11 @@ impl ChannelState {
         };
         let calls = self.core.recorded().kept(MOST_CHUNK)?;
         // One by one, since `collect` would sort them in one list first.
-        let mut names = BTreeMap::new();
+        let mut names = NumberMap::new();
         names.extend(noted.names.iter().cloned());
         let alive = self.handle_names.iter();
         names.extend(alive.map(|(number, name)| (self.core.nth(*number as u32), name.clone())));
-        let waits = self.waits.items();
+        let waits = self.waits.items().values();
         let kept_number = |handle: u32| {
             let number = self.core.number_in_table(handle);
             let last = self.last_calls.as_ref();

@@ -4,6 +4,7 @@
 use super::CallSite;
 use super::locations::Locations;
 use super::made_handles::{MadeHandles, PastHandles};
+use super::sharing_callers::SharingCallers;
 use crate::channels::backend::Actor;
 use crate::core::lists::reserved;
 use crate::core::source::rw_law::NoMemory;
@@ -12,8 +13,11 @@ use std::collections::VecDeque;
 use std::mem;
 use std::sync::Arc;
 
-/// The time is noted at each chunk's first call, and at each call after it that is one of so many.
+/// The time is noted at each chunk's first call, and then at one call in this number.
 const CALLS_BETWEEN_TIMES: usize = 1024;
+
+/// The number that the actors of a flight recorder share who come once all others are given.
+const SHARED: Actor = Actor::LAST_CALLER;
 
 /// The last calls of a channel.
 pub(crate) struct LastCalls {
@@ -32,6 +36,20 @@ pub(crate) struct LastCalls {
     // numbers.
     past: PastHandles,
     clock: Clock,
+    // Whether the recorder is a flight recorder.
+    is_of_flight: bool,
+    // How many values were sent before the last call.
+    sent: u64,
+    // Who has made that call.
+    last_actor: Actor,
+}
+
+/// A send of a value: where it was called, and by whom.
+pub(crate) struct SendMade {
+    pub(crate) called_at: CallSite,
+    pub(crate) actor: Actor,
+    /// The caller's name, where the actor's number is one that several share.
+    pub(crate) sharing: Option<Arc<str>>,
 }
 
 /// The calls of a chunk, and what is dropped with them.
@@ -40,6 +58,9 @@ struct Chunk {
     sites: Vec<CallSite>,
     // A bit for each actor that made one of them.
     actors: u64,
+    // How many calls were made before each that has sent a value, and by whom it was.
+    sends: Vec<(u32, Actor)>,
+    sharing: SharingCallers,
     // How many calls were made before each that waited, and before each drop that was made by the
     // drop of a named future.
     waited: Vec<u64>,
@@ -60,6 +81,8 @@ impl Chunk {
     fn clear(&mut self) {
         self.sites.clear();
         self.actors = 0;
+        self.sends.clear();
+        self.sharing.clear();
         self.waited.clear();
         self.cancelled.clear();
         self.texts.clear();
@@ -84,11 +107,13 @@ pub(crate) struct LastCallsCopy {
     pub(crate) names: Vec<(u64, String)>,
     pub(crate) handles: MadeHandles,
     pub(crate) moments: Vec<Moment>,
+    /// The callers who share a number, by how many calls were made before each of theirs.
+    pub(crate) sharing: Vec<(u64, Arc<str>)>,
 }
 
 impl LastCalls {
-    /// Those of a channel without calls, of which each chunk has so many, and which retains so many
-    /// values.
+    /// Those of a channel without calls, of which each chunk has `most`, and which retains
+    /// `capacity` values.
     pub(super) fn new(most: usize, capacity: usize, times: Times) -> LastCalls {
         LastCalls {
             most,
@@ -100,7 +125,52 @@ impl LastCalls {
             handles: MadeHandles::default(),
             past: PastHandles::default(),
             clock: Clock::new(times),
+            is_of_flight: false,
+            sent: 0,
+            last_actor: Actor::FIRST,
         }
+    }
+
+    /// Says whether the recorder is a flight recorder, and how many values were sent so far.
+    pub(super) fn begin(&mut self, is_of_flight: bool, sent: u64) {
+        (self.is_of_flight, self.sent) = (is_of_flight, sent);
+    }
+
+    /// Begins after `before` calls, with these handles. The core keeps later calls by the numbers
+    /// that they have.
+    pub(super) fn begin_again(&mut self, before: u64, handles: MadeHandles) {
+        let numbers: Vec<u32> = (0..handles.len()).collect();
+        (self.before, self.handles) = (before, handles);
+        self.renumber(&numbers);
+    }
+
+    /// Notes how many values were sent by the calls so far: if they are more than before the last
+    /// one, that one was a send.
+    #[inline]
+    pub(super) fn note_sent(&mut self, sent: u64) {
+        if sent > self.sent {
+            self.sent = sent;
+            let before = self.newer.sites.len().checked_sub(1);
+            let sends = before.map(|before| (before as u32, self.last_actor));
+            self.newer.sends.extend(sends);
+        }
+    }
+
+    /// Returns the first of the last `count` sends, if it is kept.
+    pub(super) fn send_before_last(&self, count: u64) -> Option<SendMade> {
+        let mut count = usize::try_from(count).ok()?;
+        for chunk in [&self.newer, &self.older] {
+            let found = chunk.sends.len().checked_sub(count);
+            if let Some((before, actor)) = found.and_then(|index| chunk.sends.get(index)) {
+                return Some(SendMade {
+                    called_at: chunk.sites[*before as usize],
+                    actor: *actor,
+                    sharing: chunk.sharing.name(*before).cloned(),
+                });
+            }
+            count -= chunk.sends.len();
+        }
+        None
     }
 
     /// Adds all calls of a channel, of which these actors have made some, and its handles. What
@@ -125,7 +195,7 @@ impl LastCalls {
     }
 
     /// How many calls were made in all.
-    fn count(&self) -> u64 {
+    pub(super) fn count(&self) -> u64 {
         self.before + (self.older.sites.len() + self.newer.sites.len()) as u64
     }
 
@@ -151,8 +221,12 @@ impl LastCalls {
         if self.newer.sites.len() % CALLS_BETWEEN_TIMES == 0 {
             self.note_time(stamp);
         }
+        if actor == SHARED && self.is_of_flight {
+            self.newer.sharing.add(self.newer.sites.len());
+        }
         self.newer.sites.push(called_at);
         self.newer.actors |= actor.bit();
+        self.last_actor = actor;
     }
 
     /// Notes what time it is at a call with this stamp.
@@ -165,6 +239,7 @@ impl LastCalls {
     /// Removes the call that was added last, since it wasn't made. Returns where it was to be.
     pub(super) fn remove_last(&mut self) -> CallSite {
         let site = self.newer.sites.pop().flatten();
+        self.newer.sharing.remove_last(self.newer.sites.len());
         if self.newer.sites.len() % CALLS_BETWEEN_TIMES == 0 {
             self.newer.moments.pop();
         }
@@ -225,8 +300,8 @@ impl LastCalls {
         });
     }
 
-    /// Notes the name of a handle that the last call has dropped, before which so many were
-    /// created.
+    /// Notes the name of a handle that the last call has dropped, before which `nth` others
+    /// were created.
     pub(super) fn add_name(&mut self, nth: u64, name: String) {
         self.newer.names.push((nth, name));
     }
@@ -259,7 +334,21 @@ impl LastCalls {
                 self.handles.copy()?
             },
             moments: joined(chunks.map(|chunk| &*chunk.moments))?,
+            sharing: self.sharing()?,
         })
+    }
+
+    /// Returns the callers who share a number, by how many calls were made before each of theirs.
+    fn sharing(&self) -> Result<Vec<(u64, Arc<str>)>, NoMemory> {
+        let newer = self.before + self.older.sites.len() as u64;
+        let chunks = [(self.before, &self.older), (newer, &self.newer)];
+        let count = chunks.iter().map(|(_, it)| it.sharing.calls().len()).sum();
+        let mut sharing = reserved(count)?;
+        for (first, chunk) in chunks {
+            let calls = chunk.sharing.calls();
+            sharing.extend(calls.map(|(before, name)| (first + u64::from(before), name.clone())));
+        }
+        Ok(sharing)
     }
 }
 

@@ -72,6 +72,17 @@ impl CallSites {
         self.whole.iter().flatten().chain(&self.last)
     }
 
+    /// Returns the call site before which `before` others were added.
+    pub(crate) fn get(&self, mut before: usize) -> CallSite {
+        for block in self.whole.iter().chain([&self.last]) {
+            if let Some(site) = block.get(before) {
+                return *site;
+            }
+            before -= block.len();
+        }
+        None
+    }
+
     pub(crate) fn len(&self) -> usize {
         self.whole.iter().map(Vec::len).sum::<usize>() + self.last.len()
     }

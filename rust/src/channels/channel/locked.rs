@@ -6,11 +6,13 @@ use crate::channels::backend::{Actor, Caller};
 use crate::channels::events::{Close, Event, Lag};
 use crate::channels::handle::Kind;
 use crate::channels::lock::lock;
-use crate::channels::queue::ItemNumber;
 use crate::channels::recorder::{DumpRequest, Shared};
 use crate::channels::turns::Permit;
-use crate::channels::wait::{Awaited, Look, Method, Wait, WaitFor};
+use crate::channels::wait::{Awaited, Look, Method, Wait, WaitNumber};
 use crate::channels::wakers::{WakeAtEnd, Wakers};
+use crate::core::shim::alloc::Global;
+use crate::core::source::rw_handles as handles;
+use crate::core::source::rw_waiting::{Notice, told};
 use crate::run::clock::now;
 use crate::run::reply::Reply;
 use std::sync::{Arc, MutexGuard};
@@ -74,7 +76,7 @@ impl RecordedChannel {
             recorder.dump_on_lag(&self.state, state, receiver.0, lost)
         });
         Event::lag(&self.recorder, dump, || {
-            Lag::new(state, receiver, received_at, lost)
+            Lag::new(&self.recorder, state, receiver, received_at, lost)
         })
     }
 
@@ -143,12 +145,11 @@ impl<'a> LockedChannel<'a> {
     #[cfg_attr(debug_assertions, inline(never))]
     #[cfg_attr(not(debug_assertions), inline(always))]
     pub(crate) fn send(&mut self, text: Option<String>, call: Send) -> (u64, Reply) {
-        let state = &mut *self.state;
-        let (handle, number) = (self.handle, state.value_count);
-        state.value_count += 1;
+        let (handle, number) = (self.handle, self.state.value_count);
         let reply = self.call_core(&text, move |core, caller| {
             call(core, caller, handle, number)
         });
+        self.state.value_count += 1;
         match reply {
             Reply::NoReceivers(_) => self.state.unsent_count += 1,
             _ => self.state.last_send.note(self.called_at),
@@ -171,12 +172,20 @@ impl<'a> LockedChannel<'a> {
         call: impl Fn(&mut CoreChannel, Caller) -> Reply,
     ) -> Reply {
         let state = &mut *self.state;
-        let clock = match &self.channel.recorder.0 {
-            Some(recorder) => {
-                let caller = (self.actor, self.called_at);
-                self.channel.tick(recorder, state, caller)
-            }
+        let (channel, by) = (self.channel, (self.actor, self.called_at));
+        let clock = match &channel.recorder.0 {
             None => 0,
+            Some(recorder) if !state.keeps_all => channel.tick_apart(recorder, state, by),
+            Some(recorder) if recorder.is_past_limit() => {
+                channel.tick_past_limit(recorder, state, by)
+            }
+            Some(recorder) => {
+                // It is added before the call, so that nothing of the reply has to be stored
+                // meanwhile.
+                state.locations.of_calls.push(self.called_at);
+                state.actors |= self.actor.bit();
+                recorder.tick()
+            }
         };
         self.stamp = clock + 1;
         let caller = Caller {
@@ -186,9 +195,7 @@ impl<'a> LockedChannel<'a> {
         let reply = call(&mut state.core, caller);
         if !reply.leaves_entry() {
             let permit = self.permit.take();
-            return self
-                .channel
-                .end_unrecorded(state, permit, caller, reply, call);
+            return channel.end_unrecorded(state, permit, caller, reply, call);
         }
         if self.permit.is_some() {
             tell_made(self.permit.take(), state.is_recorded, text.as_deref());
@@ -230,6 +237,23 @@ impl<'a> LockedChannel<'a> {
     #[cfg_attr(not(debug_assertions), inline(always))]
     pub(crate) fn unlock(self) {}
 
+    /// Unlocks the channel after a call of the receiver in this slot. A call of it that is still
+    /// listed among those that wait was forgotten, and is no longer.
+    #[cfg_attr(debug_assertions, inline(never))]
+    #[cfg_attr(not(debug_assertions), inline(always))]
+    pub(crate) fn unlock_without_wait(self, slot: Slot) {
+        if self.state.receivers.has_wait(slot) {
+            self.unlock_and_forget(slot);
+        }
+    }
+
+    #[cold]
+    fn unlock_and_forget(mut self, slot: Slot) {
+        let gone = self.state.end_forgotten(slot);
+        drop(self);
+        drop(gone);
+    }
+
     /// Unlocks the channel without a call, and returns the permit of the call.
     pub(crate) fn into_permit(self) -> Option<Permit<'a>> {
         self.permit
@@ -247,14 +271,16 @@ impl<'a> LockedChannel<'a> {
     /// the clock. Returns its number there.
     pub(crate) fn list_wait(
         &mut self,
-        kind: Kind,
+        (kind, slot): (Kind, Slot),
         awaited: Awaited,
         method: Method,
         since: u64,
-    ) -> ItemNumber {
-        self.state.waits.add(Wait {
-            actor: self.actor,
-            handle: self.handle,
+    ) -> WaitNumber {
+        let (actor, handle) = (self.actor, self.handle);
+        self.state.list_wait(Wait {
+            actor,
+            handle,
+            slot,
             kind,
             awaited,
             method,
@@ -298,23 +324,42 @@ impl<'a> LockedChannel<'a> {
             self.state.note_cancelled();
         }
         match kind {
-            Kind::Sender if self.core().senders() == 0 => {
-                self.state.note_last_drop(kind);
-                let event = self.channel.note_close(&mut self.state, self.stamp);
-                (self.remove_wakers(WaitFor::Value), event)
-            }
-            Kind::Receiver => {
-                self.state.receivers.remove(slot);
-                let wakers = if self.state.receivers.is_empty() {
-                    self.state.note_last_drop(kind);
-                    self.remove_wakers(WaitFor::NoReceiver)
-                } else {
-                    Wakers::default()
-                };
-                (wakers, Event::default())
-            }
-            _ => (Wakers::default(), Event::default()),
+            Kind::Sender => self.drop_sender(),
+            Kind::Receiver => (self.drop_receiver(slot), Event::default()),
+            Kind::WeakSender => (Wakers::default(), Event::default()),
         }
+    }
+
+    /// Ends what the channel has of its sender that is dropped.
+    #[inline]
+    fn drop_sender(&mut self) -> (Wakers, Event) {
+        let left = self.core().senders();
+        if left > 0 {
+            return (Wakers::default(), Event::default());
+        }
+        self.state.note_last_drop(Kind::Sender);
+        let event = self.channel.note_close(&mut self.state, self.stamp);
+        let notice = Notice::Dropped(handles::Kind::Sender, left);
+        (self.remove_wakers(notice), event)
+    }
+
+    /// Ends what the channel has of its receiver in this slot, which is dropped.
+    #[inline]
+    fn drop_receiver(&mut self, slot: Slot) -> Wakers {
+        let left = self.core().receivers();
+        let state = &mut *self.state;
+        let gone = if state.receivers.has_wait(slot) {
+            state.end_forgotten(slot)
+        } else {
+            None
+        };
+        state.receivers.remove(slot);
+        if left == 0 {
+            state.receivers.remove_slots();
+            state.note_last_drop(Kind::Receiver);
+        }
+        let notice = Notice::Dropped(handles::Kind::Receiver, left);
+        self.remove_wakers(notice).and_gone(gone)
     }
 
     /// Whether the handle, a receiver of a watch, has seen the value.
@@ -330,29 +375,29 @@ impl<'a> LockedChannel<'a> {
         &mut self.state.core
     }
 
-    /// Unlocks the channel, and then wakes the futures that wait for this.
+    /// Unlocks the channel, and then wakes the futures that the last call has told.
     #[cfg_attr(debug_assertions, inline(never))]
     #[cfg_attr(not(debug_assertions), inline(always))]
-    pub(crate) fn unlock_and_wake(mut self, wait_for: WaitFor) {
-        if !self.state.queue(wait_for).is_empty() {
-            self.unlock_and_wake_each(wait_for);
+    pub(crate) fn unlock_and_wake(self, notice: Notice) {
+        if self.tells_any(notice) {
+            self.unlock_and_wake_each(notice);
         }
     }
 
     #[cold]
-    fn unlock_and_wake_each(mut self, wait_for: WaitFor) {
-        let wakers = self.remove_wakers(wait_for);
+    fn unlock_and_wake_each(mut self, notice: Notice) {
+        let wakers = self.remove_wakers(notice);
         drop(self);
         wakers.wake();
     }
 
-    /// Unlocks the channel, drops a value, and then wakes the futures that wait for this. They are
-    /// woken also if the drop panics.
+    /// Unlocks the channel, drops a value, and then wakes the futures that the last call has told.
+    /// They are woken also if the drop panics.
     #[cfg_attr(debug_assertions, inline(never))]
     #[cfg_attr(not(debug_assertions), inline(always))]
-    pub(crate) fn unlock_drop_and_wake<V>(mut self, dropped: V, wait_for: WaitFor) {
-        if !self.state.queue(wait_for).is_empty() {
-            self.unlock_drop_and_wake_each(dropped, wait_for);
+    pub(crate) fn unlock_drop_and_wake<V>(self, dropped: V, notice: Notice) {
+        if self.tells_any(notice) {
+            self.unlock_drop_and_wake_each(dropped, notice);
         } else {
             drop(self);
             drop(dropped);
@@ -360,16 +405,25 @@ impl<'a> LockedChannel<'a> {
     }
 
     #[cold]
-    fn unlock_drop_and_wake_each<V>(mut self, dropped: V, wait_for: WaitFor) {
-        let wakers = WakeAtEnd(self.remove_wakers(wait_for));
+    fn unlock_drop_and_wake_each<V>(mut self, dropped: V, notice: Notice) {
+        let wakers = WakeAtEnd(self.remove_wakers(notice));
         drop(self);
         drop(dropped);
         drop(wakers);
     }
 
-    /// Removes the futures that wait for this, and returns their wakers.
+    /// Whether some future waits for what the last call has told.
+    #[inline(always)]
+    fn tells_any(&self, notice: Notice) -> bool {
+        told(notice).is_some_and(|it| !self.state.waiting.is_empty(it))
+    }
+
+    /// Removes the futures that the last call has told, and returns their wakers.
     #[inline]
-    pub(crate) fn remove_wakers(&mut self, wait_for: WaitFor) -> Wakers {
-        self.state.queue(wait_for).remove_all()
+    fn remove_wakers(&mut self, notice: Notice) -> Wakers {
+        if !self.tells_any(notice) {
+            return Wakers::default();
+        }
+        Wakers::woken(self.state.waiting.woken(Global, told(notice)))
     }
 }

@@ -5,16 +5,17 @@ use crate::channels::backend::{Actor, Caller, Recording, Spec};
 use crate::run::reply::Reply;
 use std::alloc::{Layout, handle_alloc_error};
 use std::collections::TryReserveError;
+use std::mem;
 
 /// How many handles a machine makes.
 pub(super) const MOST_HANDLES: u32 = 65_536;
 
-/// A full machine is renumbered if more than one in so many of its handles is dropped. For fewer it
-/// would take too long.
+/// A full machine is renumbered if more than one in this number of its handles is dropped. For
+/// fewer it would take too long.
 const FEW: u32 = 128;
 
-/// It is first looked whether most handles are dropped when a machine has made one in so many of
-/// those that it can make.
+/// It is first looked whether most handles are dropped when a machine has made one in this number
+/// of those that it can make.
 const FIRST_LOOK: u32 = 64;
 
 /// How many dropped handles a chunk of the last calls takes out at least, unless it has fewer
@@ -68,6 +69,8 @@ pub(super) struct Machine {
     receiver: Option<u32>,
     // The weak sender that new ones are cloned from. It is nobody's handle.
     weak: Option<u32>,
+    // How many calls nobody has made, since it was last asked. They have stamps of their own.
+    by_nobody: u64,
 }
 
 impl Machine {
@@ -84,6 +87,7 @@ impl Machine {
             is_sender_stand_in: false,
             receiver: None,
             weak: None,
+            by_nobody: 0,
         }
     }
 
@@ -113,6 +117,7 @@ impl Machine {
             is_sender_stand_in: !is_closed,
             receiver,
             weak,
+            by_nobody: 0,
         };
         machine.set_next_look();
         machine
@@ -163,6 +168,7 @@ impl Machine {
             return false;
         };
         self.weak = Some(weak as u32);
+        self.by_nobody += 1;
         self.add_number(NO_NUMBER);
         self.has_room() || self.set_next_look()
     }
@@ -172,7 +178,23 @@ impl Machine {
         self.drop_sender();
         if let Some(weak) = self.weak.take() {
             drop_handle(&mut self.core, weak);
+            self.by_nobody += 1;
         }
+    }
+
+    /// Whether at least a quarter of the handles that it can make aren't alive.
+    pub(super) fn has_much_room(&self) -> bool {
+        self.alive() <= self.most / 4 * 3
+    }
+
+    /// Returns the channel's number of a handle of this machine.
+    pub(super) fn number(&self, handle: u32) -> u32 {
+        self.numbers.get(handle as usize).copied().unwrap_or(handle)
+    }
+
+    /// Returns how many calls nobody has made since this was last asked.
+    pub(super) fn take_by_nobody(&mut self) -> u64 {
+        mem::take(&mut self.by_nobody)
     }
 
     /// Sets when it is looked next whether most handles are dropped: when it has made twice as
@@ -193,7 +215,7 @@ impl Machine {
 
     /// Whether so many handles are dropped that they are to be taken out with a chunk of the last
     /// calls: half of them, and not a few. Where the machine has little room for handles of the
-    /// next chunk, which has so many calls, some of them are enough.
+    /// next chunk, which has `chunk` calls, some of them are enough.
     pub(super) fn has_dropped_for_chunk(&self, chunk: usize) -> bool {
         let dropped = self.dropped();
         let is_half = dropped as usize >= chunk.min(LEAST_DROPPED) && dropped >= self.made / 2;
@@ -203,9 +225,13 @@ impl Machine {
 
     /// How many of the handles that it has made are dropped.
     fn dropped(&self) -> u32 {
+        self.made - self.alive()
+    }
+
+    /// How many of them are alive, those that stand for others included.
+    fn alive(&self) -> u32 {
         let core = &self.core;
-        let alive = core.senders() + core.weak_senders() + core.receivers();
-        self.made - alive as u32
+        (core.senders() + core.weak_senders() + core.receivers()) as u32
     }
 
     /// Whether so many handles are dropped that a renumbering takes no longer than it took to make
@@ -368,6 +394,7 @@ impl Machine {
         let sender = self.sender.take().filter(|_| self.is_sender_stand_in);
         if let Some(sender) = sender {
             drop_handle(&mut self.core, sender);
+            self.by_nobody += 1;
         }
         self.is_sender_stand_in = false;
     }

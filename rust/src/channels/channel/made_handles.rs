@@ -18,6 +18,26 @@ pub(crate) struct MadeHandles {
 }
 
 impl MadeHandles {
+    /// Those of a table that has these handles, each with how many were created before and where it
+    /// was. `next` handles were created in all.
+    pub(super) fn of(handles: Vec<(u64, CallSite)>, next: u64) -> MadeHandles {
+        let (survivors, sites) = handles.into_iter().unzip();
+        MadeHandles {
+            sites,
+            survivors,
+            next,
+        }
+    }
+
+    /// Returns where the handle was created before which `nth` others were.
+    pub(super) fn made_at_nth(&self, nth: u64) -> CallSite {
+        let number = match self.survivors.binary_search(&nth) {
+            Ok(number) => number as u64,
+            Err(_) => nth.checked_sub(self.next)? + self.survivors.len() as u64,
+        };
+        self.sites.get(number as usize).copied().flatten()
+    }
+
     /// Adds a handle that was created here. Its number is the next one of the table.
     pub(super) fn add(&mut self, made_at: CallSite) {
         self.sites.push(made_at);

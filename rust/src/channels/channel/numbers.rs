@@ -104,7 +104,7 @@ impl Numbers {
     }
 
     /// Says that from now on each handle has the number that the first machine gave it, which had
-    /// made so many. Those that are alive have the numbers below `alive`.
+    /// made `made` of them. Those that are alive have the numbers below `alive`.
     pub(super) fn be_of_machine(&mut self, alive: u32, made: u32) {
         if self.are_own() {
             self.places.clear();
@@ -135,6 +135,15 @@ impl Numbers {
         match self.nths.get(number as usize) {
             Some(nth) => *nth,
             None => self.created + u64::from(number) - self.nths.len() as u64,
+        }
+    }
+
+    /// How many handles the channel has created, if the first machine has made `made` of them.
+    pub(super) fn all_created(&self, made: u32) -> u64 {
+        if self.are_own() {
+            self.created
+        } else {
+            self.nth(made)
         }
     }
 

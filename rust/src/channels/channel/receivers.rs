@@ -1,6 +1,8 @@
 //! The receivers of a channel that are alive, with what is said of each: recorded or not.
 
 use super::CallSite;
+use crate::channels::wait::WaitNumber;
+use std::mem;
 
 /// Where a receiver is in the list of those that are alive.
 #[derive(Clone, Copy, Debug, PartialEq, Eq)]
@@ -28,9 +30,32 @@ pub(crate) struct LiveReceiver {
     pub(crate) received_stamp: u64,
     /// How many values it was told that it has lost.
     pub(crate) lost: u64,
+    // Its call that waits, or `NO_WAIT`.
+    wait: ListedWait,
 }
 
-/// A number that no handle has, since a channel has no place for so many.
+/// A call of a receiver that waits: its number among all that wait, and its ticket among those that
+/// are woken.
+#[derive(Clone, Copy)]
+pub(super) struct ListedWait {
+    pub(super) listed: WaitNumber,
+    pub(super) ticket: WaitNumber,
+}
+
+/// No call that waits.
+const NO_WAIT: ListedWait = ListedWait {
+    listed: WaitNumber::MAX,
+    ticket: WaitNumber::MAX,
+};
+
+impl ListedWait {
+    #[inline]
+    fn there(self) -> Option<ListedWait> {
+        (self.listed != NO_WAIT.listed).then_some(self)
+    }
+}
+
+/// A number that no handle has, since a channel has no place for that number of handles.
 const NO_NUMBER: u32 = u32::MAX;
 
 /// The receivers of a channel that are alive. A slot is used again once its receiver is dropped, so
@@ -39,7 +64,6 @@ pub(crate) struct Receivers {
     slots: Vec<LiveReceiver>,
     // The slot that is used next, if one is free.
     free: Slot,
-    alive: usize,
 }
 
 impl Default for Receivers {
@@ -47,7 +71,6 @@ impl Default for Receivers {
         Receivers {
             slots: Vec::new(),
             free: NO_SLOT,
-            alive: 0,
         }
     }
 }
@@ -62,8 +85,8 @@ impl Receivers {
             received_at: None,
             received_stamp: 0,
             lost: 0,
+            wait: NO_WAIT,
         };
-        self.alive += 1;
         let slot = self.free;
         match self.slots.get_mut(slot.0 as usize) {
             Some(free) => {
@@ -90,25 +113,34 @@ impl Receivers {
         receiver.number = NO_NUMBER;
         receiver.lost = self.free.0.into();
         self.free = slot;
-        self.alive -= 1;
-        if self.alive == 0 {
-            self.remove_slots();
-        }
     }
 
     /// Frees the memory of many slots. Where few receivers are left of many, none of them may be
     /// moved. Here none is left.
     #[cold]
-    fn remove_slots(&mut self) {
+    pub(super) fn remove_slots(&mut self) {
         if self.slots.len() > 64 {
             *self = Receivers::default();
         }
     }
 
-    /// Whether no receiver is alive.
+    /// Notes the call of a receiver that waits, and returns the one that was noted before.
+    pub(super) fn note_wait(&mut self, Slot(slot): Slot, wait: ListedWait) -> Option<ListedWait> {
+        let receiver = self.slots.get_mut(slot as usize)?;
+        mem::replace(&mut receiver.wait, wait).there()
+    }
+
+    /// Returns the call of a receiver that waits, which is no longer noted then.
     #[inline]
-    pub(super) fn is_empty(&self) -> bool {
-        self.alive == 0
+    pub(super) fn take_wait(&mut self, slot: Slot) -> Option<ListedWait> {
+        self.note_wait(slot, NO_WAIT)
+    }
+
+    /// Whether a call of the receiver that waits is noted.
+    #[inline(always)]
+    pub(crate) fn has_wait(&self, Slot(slot): Slot) -> bool {
+        let receiver = self.slots.get(slot as usize);
+        receiver.is_some_and(|receiver| receiver.wait.listed != NO_WAIT.listed)
     }
 
     /// Notes that a receiver has received a value here, by a call with this stamp.
@@ -120,7 +152,7 @@ impl Receivers {
         }
     }
 
-    /// Notes that a receiver was told that it has lost so many values.
+    /// Notes that a receiver was told that it has lost `lost` values.
     pub(super) fn lose(&mut self, Slot(slot): Slot, lost: u64) {
         if let Some(receiver) = self.slots.get_mut(slot as usize) {
             receiver.lost += lost;
@@ -172,7 +204,7 @@ mod tests {
             .map(|number| receivers.add(number, None))
             .collect();
         slots.into_iter().for_each(|slot| receivers.remove(slot));
-        assert!(receivers.is_empty());
+        receivers.remove_slots();
         assert_eq!(
             (receivers.slots.capacity(), receivers.iter().count()),
             (0, 0)

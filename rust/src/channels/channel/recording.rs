@@ -7,41 +7,26 @@ use crate::channels::turns::Permit;
 use crate::run::reply::Reply;
 
 impl RecordedChannel {
-    /// Stores by whom and where the next call is made, if this recorder is to record it, and
-    /// returns the clock's number for it. A call that isn't recorded leaves the clock as it is,
-    /// which the threads of all channels of the recorder write.
-    #[inline(always)]
-    pub(super) fn tick(
-        &self,
-        recorder: &Shared,
-        state: &mut ChannelState,
-        (actor, called_at): (Actor, CallSite),
-    ) -> u64 {
-        if !state.keeps_all {
-            return self.tick_apart(recorder, state, (actor, called_at));
-        }
-        if recorder.is_past_limit() {
-            return self.tick_past_limit(recorder, state, (actor, called_at));
-        }
-        // It is added before the call, so that nothing of the reply has to be stored meanwhile.
-        state.locations.of_calls.push(called_at);
-        state.actors |= actor.bit();
-        recorder.tick()
-    }
-
-    /// As [`tick`](RecordedChannel::tick), where the last calls alone are kept, or none.
+    /// Stores by whom and where the next call is made, and returns the clock's number for it, where
+    /// the last calls alone are kept, or none. A call that isn't recorded leaves the clock as it
+    /// is, which the threads of all channels of the recorder write.
     // What is cold is laid out apart, and so leaves the calls that are recorded as fast as they
     // are.
     #[cold]
     #[inline(never)]
-    fn tick_apart(
+    pub(super) fn tick_apart(
         &self,
         recorder: &Shared,
         state: &mut ChannelState,
         (actor, called_at): (Actor, CallSite),
     ) -> u64 {
+        state.note_last_send();
         if state.has_full_chunk() {
             state.turn_chunks();
+        }
+        if state.paused.is_some() && !state.goes_on(recorder) {
+            let paused = state.paused.as_mut();
+            return paused.map_or(0, |paused| paused.tick(recorder));
         }
         let Some(last) = &mut state.last_calls else {
             return 0;
@@ -51,11 +36,11 @@ impl RecordedChannel {
         clock
     }
 
-    /// As [`tick`](RecordedChannel::tick), once a channel of the recorder has recorded as many
-    /// calls as a journal takes. This one then keeps its last calls alone, or none.
+    /// As [`tick_apart`](RecordedChannel::tick_apart), once a channel of the recorder has recorded
+    /// as many calls as a journal takes. This one then keeps its last calls alone, or none.
     #[cold]
     #[inline(never)]
-    fn tick_past_limit(
+    pub(super) fn tick_past_limit(
         &self,
         recorder: &Shared,
         state: &mut ChannelState,
@@ -85,9 +70,12 @@ impl RecordedChannel {
         if state.make_room_for_handles() {
             return;
         }
-        self.end_recording(state);
+        let is_paused = state.pause();
+        if !is_paused {
+            self.end_recording(state);
+        }
         if let Some(recorder) = &self.recorder.0 {
-            recorder.tell_of_too_many_handles();
+            recorder.tell_of_too_many_handles(is_paused);
         }
     }
 

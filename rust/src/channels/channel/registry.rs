@@ -3,6 +3,7 @@
 
 use super::ChannelState;
 use crate::channels::lock::lock;
+use crate::run::sorting::sort_by_key;
 use std::sync::{Arc, Mutex, Weak};
 
 /// A channel of the list.
@@ -76,6 +77,6 @@ pub(crate) fn all(of_recorder: Option<u64>) -> Vec<Arc<Mutex<ChannelState>>> {
         .filter_map(|entry| Some((entry.number, entry.state.upgrade()?)))
         .collect();
     drop(all);
-    channels.sort_by_key(|(number, _)| *number);
+    sort_by_key(&mut channels, |(number, _)| *number);
     channels.into_iter().map(|(_, state)| state).collect()
 }

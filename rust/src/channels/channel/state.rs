@@ -1,19 +1,24 @@
 //! A channel without its values, as its recorder shares it.
 
 use super::CoreChannel;
-use super::last_caller::LastCaller;
-use super::last_calls::LastCalls;
+use super::last_calls::{LastCalls, SendMade};
 use super::last_drops::DropStacks;
 use super::locations::{CallSite, Locations};
-use super::receivers::Receivers;
+use super::paused::PausedFlight;
+use super::receivers::{ListedWait, Receivers, Slot};
+use crate::channels::actors::LastCaller;
 use crate::channels::handle::Kind;
-use crate::channels::queue::Queue;
-use crate::channels::wait::{DroppedWait, Look, Pending, Wait, WaitFor};
-use crate::channels::wakers::WakerQueue;
+use crate::channels::wait::{DroppedWait, Look, Pending, Wait, WaitFor, WaitNumber};
+use crate::channels::whereabouts::renews;
 use crate::core::large_pages::without_giving_back;
+use crate::core::shim::alloc::Global;
+use crate::core::source::rw_law::NoMemory;
+use crate::core::source::rw_waiting::{Queue, Waiting};
 use crate::run::clock::Times;
-use crate::run::names::Maker;
-use std::collections::{BTreeMap, VecDeque};
+use crate::run::numbered::NumberMap;
+use crate::run::sidecar::Maker;
+use std::alloc::{Layout, handle_alloc_error};
+use std::collections::VecDeque;
 use std::mem;
 use std::task::Waker;
 
@@ -28,6 +33,8 @@ pub(crate) struct ChannelState {
     pub(super) keeps_all: bool,
     // If the last ones alone are, what is known of them.
     pub(super) last_calls: Option<Box<LastCalls>>,
+    // If they aren't for a time, since too many handles are alive.
+    pub(super) paused: Option<Box<PausedFlight>>,
     // How many values were passed to the core, which is the number of the next one.
     pub(super) value_count: u64,
     // How many of these were not sent, since there was no receiver.
@@ -41,8 +48,8 @@ pub(crate) struct ChannelState {
     pub(crate) receivers: Receivers,
     // Who has sent last, and where.
     pub(crate) last_send: LastCaller,
-    waiting_for_value: WakerQueue,
-    waiting_for_no_receiver: WakerQueue,
+    // The futures that wait, with their wakers, each until a call wakes it.
+    pub(super) waiting: Waiting<Waker>,
     // The calls that wait. A call stays here from its first poll to its end, also while it is woken
     // and not yet polled again.
     pub(crate) waits: Queue<Wait>,
@@ -56,9 +63,9 @@ pub(crate) struct ChannelState {
     pub(crate) name: Option<String>,
     // The names of senders and receivers by their numbers: of those that the journal names, and of
     // the others that are alive.
-    pub(crate) handle_names: BTreeMap<u64, String>,
+    pub(crate) handle_names: NumberMap<u64, String>,
     // The texts of values by their numbers.
-    pub(crate) texts: BTreeMap<u64, String>,
+    pub(crate) texts: NumberMap<u64, String>,
     pub(crate) locations: Locations,
     // Who has made the channel, if it has a recorder.
     pub(crate) made_by: Option<Maker>,
@@ -77,6 +84,7 @@ impl ChannelState {
             is_recorded: true,
             keeps_all: true,
             last_calls: None,
+            paused: None,
             value_count,
             unsent_count: 0,
             opened_with: value_count,
@@ -84,15 +92,14 @@ impl ChannelState {
             actors: 0,
             receivers: Receivers::default(),
             last_send: LastCaller::default(),
-            waiting_for_value: WakerQueue::default(),
-            waiting_for_no_receiver: WakerQueue::default(),
-            waits: Queue::default(),
+            waiting: Waiting::new(Global),
+            waits: Queue::new(Global),
             last_drops: DropStacks::default(),
             dropped_waits: VecDeque::new(),
             looks: Vec::new(),
             name: None,
-            handle_names: BTreeMap::new(),
-            texts: BTreeMap::new(),
+            handle_names: NumberMap::new(),
+            texts: NumberMap::new(),
             locations: Locations::default(),
             made_by: None,
             waited: Vec::new(),
@@ -134,10 +141,12 @@ impl ChannelState {
     /// Removes what was stored for a call that then wasn't recorded. Returns where it was made.
     pub(super) fn remove_location(&mut self) -> CallSite {
         if self.keeps_all {
-            self.locations.of_calls.pop()
-        } else {
-            self.last_calls.as_mut()?.remove_last()
+            return self.locations.of_calls.pop();
         }
+        if let Some(paused) = &mut self.paused {
+            paused.remove_last();
+        }
+        self.last_calls.as_mut()?.remove_last()
     }
 
     /// Stores where a handle was made, if the journal names it. Handles are made in the order of
@@ -187,7 +196,7 @@ impl ChannelState {
     }
 
     /// Returns the names of those handles that the journal names.
-    pub(crate) fn names_in_journal(&self) -> BTreeMap<u64, String> {
+    pub(crate) fn names_in_journal(&self) -> NumberMap<u64, String> {
         let count = self.locations.of_handles.len() as u64;
         let named = self.handle_names.range(..count);
         named
@@ -261,6 +270,31 @@ impl ChannelState {
         !self.core.has_named_all()
     }
 
+    /// Notes whether the last call was a send, where the last ones alone are kept.
+    #[inline]
+    pub(super) fn note_last_send(&mut self) {
+        let sent = self.sent_count();
+        if let Some(last) = &mut self.last_calls {
+            last.note_sent(sent);
+        }
+    }
+
+    /// Returns the first of the last `count` sends, if it is kept.
+    pub(crate) fn send_before_last(&mut self, count: u64) -> Option<SendMade> {
+        if let Some(last) = &self.last_calls {
+            return last.send_before_last(count);
+        }
+        if !self.keeps_all {
+            return None;
+        }
+        let (before, actor) = self.core.recorded().send_before_last(count)?;
+        Some(SendMade {
+            called_at: self.locations.of_calls.get(before),
+            actor,
+            sharing: None,
+        })
+    }
+
     /// Whether the next one of the last calls begins a chunk.
     #[inline]
     pub(super) fn has_full_chunk(&self) -> bool {
@@ -298,7 +332,7 @@ impl ChannelState {
     /// Returns the numbers of actors that are needed: those of stored calls, of calls that wait,
     /// and of looks. Each is a bit.
     pub(crate) fn stored_actors(&self) -> u64 {
-        let waits = self.waits.items().map(|wait| wait.actor);
+        let waits = self.waits.items().values().map(|wait| wait.actor);
         let dropped = self.dropped_waits.iter().map(|it| it.wait.actor);
         let looks = self.looks.iter().map(|look| look.actor);
         waits
@@ -364,18 +398,72 @@ impl ChannelState {
     /// held.
     #[inline]
     pub(crate) fn end_wait(&mut self, wait_for: WaitFor, pending: &mut Pending) -> Option<Waker> {
-        if let Some(listed) = pending.listed.take() {
-            self.waits.remove(listed);
+        let listed = pending.listed.take();
+        if let Some(wait) = listed.and_then(|listed| self.waits.remove(listed)) {
+            self.receivers.take_wait(wait.slot);
         }
-        self.queue(wait_for).remove(&mut pending.queued)
+        self.waiting.leave(wait_for, pending.queued.take()?)
     }
 
-    /// Returns the futures that wait for this.
-    #[inline]
-    pub(crate) fn queue(&mut self, wait_for: WaitFor) -> &mut WakerQueue {
-        match wait_for {
-            WaitFor::Value => &mut self.waiting_for_value,
-            WaitFor::NoReceiver => &mut self.waiting_for_no_receiver,
-        }
+    /// Lists a call that begins to wait, behind the others, and returns its number.
+    pub(crate) fn list_wait(&mut self, wait: Wait) -> WaitNumber {
+        let listed = self.waits.add(wait);
+        listed.unwrap_or_else(|NoMemory| no_memory())
     }
+
+    /// Whether a call is listed with a waker that wakes the same task as this one.
+    pub(crate) fn wakes(&self, wait_for: WaitFor, pending: &Pending, waker: &Waker) -> bool {
+        let ticket = pending.queued;
+        let listed = ticket.and_then(|ticket| self.waiting.waker(wait_for, ticket));
+        listed.is_some_and(|listed| renews(listed, waker))
+    }
+
+    /// Lists a call, which is among those that wait, with its waker. One that is listed stays where
+    /// it is. Returns a waker that nobody needs any more, to be dropped while no lock is held.
+    pub(crate) fn list_waker(
+        &mut self,
+        wait_for: WaitFor,
+        slot: Slot,
+        pending: &mut Pending,
+        mut waker: Waker,
+    ) -> Option<Waker> {
+        if let Some(ticket) = pending.queued {
+            match self.waiting.renew(wait_for, ticket, waker) {
+                Ok(before) => return Some(before),
+                Err(back) => waker = back,
+            }
+        }
+        let ticket = self.waiting.wait(wait_for, waker);
+        let ticket = ticket.unwrap_or_else(|NoMemory| no_memory());
+        pending.queued = Some(ticket);
+        let listed = pending.listed?;
+        let before = self
+            .receivers
+            .note_wait(slot, ListedWait { listed, ticket })?;
+        if before.listed == listed {
+            return None;
+        }
+        // It has begun another call, so its future before is gone, without a drop.
+        self.end_listed(before)
+    }
+
+    /// Ends the wait of a receiver, if one is listed that has a waker: its future is gone, since
+    /// the receiver makes another call or is dropped. Without a drop it is gone if it was
+    /// forgotten. Returns its waker, to be dropped while no lock is held.
+    #[cold]
+    pub(crate) fn end_forgotten(&mut self, slot: Slot) -> Option<Waker> {
+        let listed = self.receivers.take_wait(slot)?;
+        self.end_listed(listed)
+    }
+
+    fn end_listed(&mut self, wait: ListedWait) -> Option<Waker> {
+        self.waits.remove(wait.listed);
+        self.waiting.leave(WaitFor::Value, wait.ticket)
+    }
+}
+
+/// Ends the process, as `std` does where memory is refused.
+#[cold]
+fn no_memory() -> ! {
+    handle_alloc_error(Layout::new::<Wait>())
 }

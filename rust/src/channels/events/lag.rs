@@ -3,6 +3,7 @@
 use super::{ChannelOf, values};
 use crate::channels::channel::{CallSite, ChannelState, Slot};
 use crate::channels::handle::Kind;
+use crate::channels::recorder::RecordedBy;
 use std::fmt;
 use std::panic::Location;
 
@@ -42,17 +43,23 @@ pub struct Lag {
     lost: u64,
     lost_in_all: u64,
     unread: u64,
+    overwritten: Option<(String, CallSite)>,
 }
 
 impl Lag {
-    /// Describes the receiver with this number and this slot, which lagged by so many values, as a
-    /// receive here returned.
+    /// Describes the receiver with this number and this slot, which lagged by `lost` values, as a
+    /// receive here returned. The recorder may have kept who overwrote them.
     pub(crate) fn new(
+        recorder: &RecordedBy,
         state: &mut ChannelState,
         (number, slot): (u32, Slot),
         received_at: CallSite,
         lost: u64,
     ) -> Lag {
+        // Each send after the one that overwrote the first has overwritten one more.
+        let send = state.send_before_last(lost);
+        let overwritten =
+            send.and_then(|send| Some((recorder.name_of_sender(&send)?, send.called_at)));
         let unread = state.core.unread(number);
         let receiver = state.receivers.get(slot);
         Lag {
@@ -63,6 +70,7 @@ impl Lag {
             lost,
             lost_in_all: receiver.lost,
             unread,
+            overwritten,
         }
     }
 
@@ -114,6 +122,34 @@ impl Lag {
         self.unread
     }
 
+    /// Returns the name of the thread, task or [`named`](crate::named) future whose send overwrote
+    /// the first of the lost values, if a recorder keeps that send.
+    ///
+    /// # Examples
+    ///
+    /// Who sends last has overwritten the second one here:
+    ///
+    /// ```
+    /// use yovanelum::{Recorder, block_on, broadcast, named};
+    ///
+    /// let recorder = Recorder::new();
+    /// recorder.on_lag(|lag| assert_eq!(lag.overwritten_by(), Some("eager")));
+    /// let _entered = recorder.enter();
+    /// let (prices, mut chart) = broadcast::channel(2);
+    /// for (sender, price) in [("calm", 101), ("calm", 102), ("eager", 103), ("calm", 104)] {
+    ///     block_on(named(sender, async { prices.send(price) })).unwrap();
+    /// }
+    /// assert!(chart.try_recv().is_err());
+    /// ```
+    pub fn overwritten_by(&self) -> Option<&str> {
+        self.overwritten.as_ref().map(|(sender, _)| sender.as_str())
+    }
+
+    /// Returns where that send was called.
+    pub fn overwritten_at(&self) -> Option<&'static Location<'static>> {
+        self.overwritten.as_ref()?.1
+    }
+
     /// Returns the name of the thread, task or [`named`](crate::named) future that sent last.
     pub fn sender(&self) -> Option<&str> {
         self.channel.sender.as_deref()
@@ -127,7 +163,8 @@ impl Lag {
 
 impl fmt::Display for Lag {
     /// Formats it as in ``audit` lost 17 values of `prices` (capacity 16), 34 in all, and has 16 to
-    /// receive; the last send was by exchange at src/exchange.rs:20``.
+    /// receive; the first was overwritten by exchange at src/exchange.rs:20``. Where no recorder
+    /// keeps that send, it says whose the last send was.
     fn fmt(&self, f: &mut fmt::Formatter<'_>) -> fmt::Result {
         let (receiver, channel, capacity) = (&self.receiver, self.channel(), self.capacity());
         let lost = values(self.lost);
@@ -140,6 +177,15 @@ impl fmt::Display for Lag {
             ", {} in all, and has {} to receive",
             self.lost_in_all, self.unread
         )?;
-        self.channel.fmt_sender(f)
+        match &self.overwritten {
+            Some((sender, Some(at))) => {
+                let (file, line) = (at.file(), at.line());
+                write!(
+                    f,
+                    "; the first was overwritten by {sender} at {file}:{line}"
+                )
+            }
+            _ => self.channel.fmt_sender(f),
+        }
     }
 }

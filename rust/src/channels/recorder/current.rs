@@ -49,6 +49,13 @@ pub(super) struct Stack {
 }
 
 impl Stack {
+    /// What the thread has that runs this test.
+    pub(super) fn of_test(test: TestThread) -> Stack {
+        let stack = Stack::default();
+        let _ = stack.test.set(Some(test));
+        stack
+    }
+
     /// Returns the number of the new entry.
     pub(super) fn push(&self, recorder: &Recorder) -> u64 {
         IS_ANY.store(true, Ordering::Relaxed);
@@ -68,7 +75,7 @@ impl Stack {
         drop(removed);
     }
 
-    fn last(&self) -> Option<Recorder> {
+    pub(super) fn last(&self) -> Option<Recorder> {
         let last = lock(&self.entries).last().map(|(_, last)| last.clone());
         last.or_else(|| self.followed.as_ref()?.last())
     }
@@ -108,8 +115,8 @@ pub(crate) fn is_any_entered() -> bool {
 /// Returns the number of the recorder that a new channel of this thread would belong to, and the
 /// thread that has created it.
 pub(crate) fn current_and_home() -> Option<(u64, usize)> {
-    let current = Recorder::current_or_begun().filter(|recorder| !recorder.0.is_off)?;
-    Some((current.0.id, current.0.home))
+    let current = Recorder::current_or_begun(None).filter(|recorder| !recorder.0.is_off)?;
+    Some((current.0.id, current.0.home()))
 }
 
 /// Whether the recorder with this number is entered on this thread, or installed. It is called
@@ -125,6 +132,16 @@ pub(crate) fn is_entered(id: u64) -> bool {
 pub(super) fn of_this_thread() -> Arc<Stack> {
     let stack = ENTERED.try_with(|entered| entered.borrow().0.clone());
     stack.unwrap_or_default()
+}
+
+/// Has this thread have these recorders, unless it has some. Returns whether it does.
+pub(super) fn replace_of_this_thread(stack: &Arc<Stack>) -> bool {
+    let replace = |entered: &RefCell<OfThread>| {
+        let OfThread(own) = &mut *entered.borrow_mut();
+        let has_none = lock(&own.entries).is_empty() && own.followed.is_none();
+        has_none.then(|| *own = stack.clone()).is_some()
+    };
+    ENTERED.try_with(replace).unwrap_or(false)
 }
 
 impl Recorder {

@@ -3,7 +3,7 @@
 use super::Shared;
 use crate::channels::actors;
 use crate::channels::cut::start_of;
-use crate::run::names::{Names, Panic, SourceLocation};
+use crate::run::sidecar::{Panic, Sidecar, SourceLocation};
 use std::panic::PanicHookInfo;
 use std::thread::{self, ThreadId};
 use std::time::Duration;
@@ -47,7 +47,7 @@ impl NotedPanic {
     }
 
     /// Adds it to the names.
-    pub(crate) fn add_to(&self, names: &mut Names) {
+    pub(crate) fn add_to(&self, names: &mut Sidecar) {
         let location = self.location.as_ref();
         let location = location.map(|location| names.index_of(location));
         names.ending.panics.push(Panic {

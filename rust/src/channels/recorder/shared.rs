@@ -7,13 +7,13 @@ use super::texts::Texts;
 use crate::channels::actors::{self, Actors};
 use crate::channels::atomic::AtomicU64;
 use crate::channels::backend::Actor;
-use crate::channels::channel::{CallSite, ChannelState, Known};
+use crate::channels::channel::{CallSite, ChannelState, Known, SendMade};
 use crate::channels::lock::{lock, try_lock_for};
 use crate::channels::reentrant::thread_number;
 use crate::channels::turns::{self, Turns};
 use crate::channels::whereabouts::WatchedTest;
-use crate::run::clock::Times;
-use crate::run::names::{Maker, Unrecorded};
+use crate::run::clock::{FLIGHT_START, Times};
+use crate::run::sidecar::{Maker, Unrecorded};
 use std::sync::atomic::{AtomicBool, AtomicUsize, Ordering};
 use std::sync::{Arc, Mutex, OnceLock, Weak};
 use std::time::Duration;
@@ -27,10 +27,6 @@ const NEVER: u64 = u64::MAX;
 /// The value of `end` once each channel keeps its last calls alone.
 const GOES_ON: u64 = NEVER - 1;
 
-/// Where the clock of a flight recorder begins. It is more than the leads of all channels can have
-/// entries, and these have the stamps from 1 on. So a call has the same stamp in each dump.
-const FLIGHT_START: u64 = 64 * 1_048_576;
-
 static NEXT_ID: AtomicU64 = AtomicU64::new(1);
 
 /// Counts calls. Each gets a number under its channel's lock, and passes it to the core as its
@@ -41,8 +37,8 @@ struct CallCounter(AtomicU64);
 /// What a recorder's channels share.
 pub(crate) struct Shared {
     pub(crate) id: u64,
-    // The thread that has created the recorder.
-    pub(crate) home: usize,
+    // The thread that has created the recorder, or that runs its test.
+    home: AtomicUsize,
     // Whether channels that are created under this recorder aren't recorded.
     pub(crate) is_off: bool,
     // Whether channels keep their last calls once one of them has as many as a journal takes.
@@ -56,6 +52,8 @@ pub(crate) struct Shared {
     // The last stamp that is recorded.
     end: AtomicU64,
     pub(crate) is_quiet: AtomicBool,
+    // Whether values have texts that nobody asked for, where their types are known.
+    shows_known: AtomicBool,
     left_out: LeftOut,
     pub(crate) channels: Mutex<Vec<Arc<Mutex<ChannelState>>>>,
     pub(crate) actors: Mutex<Actors>,
@@ -96,7 +94,7 @@ impl Shared {
     pub(crate) fn new(is_off: bool) -> Shared {
         Shared {
             id: NEXT_ID.fetch_add(1, Ordering::Relaxed),
-            home: thread_number(),
+            home: AtomicUsize::new(thread_number()),
             is_off,
             may_go_on: AtomicBool::new(false),
             flight: None,
@@ -105,6 +103,7 @@ impl Shared {
             has_several: AtomicBool::new(false),
             end: AtomicU64::new(NEVER),
             is_quiet: AtomicBool::new(false),
+            shows_known: AtomicBool::new(false),
             left_out: LeftOut::default(),
             channels: Mutex::default(),
             actors: Mutex::default(),
@@ -130,6 +129,26 @@ impl Shared {
     pub(crate) fn follow(&mut self, turns: Arc<dyn Turns>, actors: Vec<Option<String>>) {
         lock(&self.actors).preload(actors);
         self.turns = Some(turns);
+    }
+
+    /// Returns the thread that has created the recorder, or that runs its test.
+    pub(crate) fn home(&self) -> usize {
+        self.home.load(Ordering::Relaxed)
+    }
+
+    /// Has values of known types have texts, on channels that are created from now on.
+    pub(crate) fn show_known(&self) {
+        self.shows_known.store(true, Ordering::Relaxed);
+    }
+
+    /// Whether values have texts that nobody asked for.
+    pub(crate) fn shows_known(&self) -> bool {
+        self.shows_known.load(Ordering::Relaxed)
+    }
+
+    /// Says which thread runs the test of this recorder.
+    pub(crate) fn set_home(&self, thread: usize) {
+        self.home.store(thread, Ordering::Relaxed);
     }
 
     /// Whether channels that are created under this recorder aren't recorded.
@@ -336,13 +355,31 @@ impl Shared {
         }
     }
 
-    /// Reports that a channel makes more handles than a journal names.
+    /// Reports that a channel makes more handles than a journal names: its recording ends, or is
+    /// paused.
     #[cold]
-    pub(crate) fn tell_of_too_many_handles(&self) {
-        count_and_tell(
-            &self.left_out.too_many_handles,
-            "a channel has created as many handles as a journal names (65536); its recording ended there, and its calls go on unrecorded",
-        );
+    pub(crate) fn tell_of_too_many_handles(&self, is_paused: bool) {
+        let line = if is_paused {
+            "nearly as many senders and receivers of a channel are alive as a journal names (65536); its calls go on unrecorded until there is room again"
+        } else {
+            "a channel has created as many handles as a journal names (65536); its recording ended there, and its calls go on unrecorded"
+        };
+        count_and_tell(&self.left_out.too_many_handles, line);
+    }
+
+    /// Notes that a channel is recorded again, since there is room for its handles.
+    #[cold]
+    pub(crate) fn tell_of_room(&self) {
+        self.left_out
+            .too_many_handles
+            .fetch_sub(1, Ordering::Relaxed);
+    }
+
+    /// Leaves out the next `numbers` of the clock. The lock of a channel is held.
+    #[cold]
+    pub(crate) fn skip(&self, numbers: u64) {
+        let CallCounter(clock) = &self.clock;
+        clock.fetch_add(numbers, Ordering::SeqCst);
     }
 
     /// Keeps the last calls of a new channel alone, if that is what the recorder does. Returns
@@ -406,6 +443,13 @@ impl RecordedBy {
         self.0.as_ref().is_none_or(|recorder| recorder.is_quiet())
     }
 
+    /// Whether values of known types have texts that nobody asked for.
+    pub(crate) fn shows_known(&self) -> bool {
+        self.0
+            .as_ref()
+            .is_some_and(|recorder| recorder.shows_known())
+    }
+
     /// Whether there is a recorder, and its recording hasn't ended.
     #[inline]
     pub(crate) fn is_recording(&self) -> bool {
@@ -416,6 +460,15 @@ impl RecordedBy {
     /// Returns what the handles of the recorder hold, if there is a recorder and one is alive.
     pub(crate) fn held(&self) -> Option<HeldTexts> {
         self.0.as_ref()?.held()
+    }
+
+    /// Returns the name of who has made a send that is recorded.
+    pub(crate) fn name_of_sender(&self, send: &SendMade) -> Option<String> {
+        if let Some(name) = &send.sharing {
+            return Some(name.to_string());
+        }
+        let actors = lock(&self.0.as_ref()?.actors);
+        actors.name(send.actor).cloned()
     }
 
     /// Returns the actor of a call that is made here in the source. What isn't recorded has the

@@ -4,13 +4,14 @@
 //! receiver. If the channel held it, the channel would hold itself, and stay open forever.
 
 use crate::channels::cut::start_of;
+use crate::channels::erased;
 use crate::channels::events::Hooks;
 use crate::channels::lock::lock;
 use crate::channels::turns::{TestEnd, Turns};
 use std::any::Any;
 use std::collections::HashMap;
 use std::sync::atomic::{AtomicUsize, Ordering};
-use std::sync::{Arc, Mutex, Weak};
+use std::sync::{Arc, Mutex, OnceLock, Weak};
 
 /// How many bytes a text has at most, unless the recorder is told otherwise.
 const MOST_BYTES: usize = 4096;
@@ -34,7 +35,17 @@ struct Functions {
 
 /// What a channel knows of the function for the texts of its values. If this is dropped, the
 /// recorder drops the function.
-pub struct TextOf<T> {
+pub struct TextOf<T>(Source<T>);
+
+/// Where the text of a value is from.
+enum Source<T> {
+    Held(HeldFunction<T>),
+    /// Its type, until a function is given.
+    Known(OnceLock<HeldFunction<T>>),
+}
+
+/// A function that the recorder holds.
+struct HeldFunction<T> {
     function: Weak<dyn Fn(&T) -> String + Send + Sync>,
     held_by: Weak<Texts>,
     number: u64,
@@ -79,25 +90,55 @@ impl Texts {
         let number = functions.next;
         functions.next += 1;
         functions.by_number.insert(number, function.clone());
-        TextOf {
+        TextOf(Source::Held(HeldFunction {
             function: Arc::downgrade(&function) as _,
             held_by: Arc::downgrade(self),
             number,
             most_bytes: self.most_bytes.clone(),
-        }
+        }))
     }
 }
 
 impl<T> TextOf<T> {
-    /// Returns the text of a value, if the recorder still holds the function.
+    /// What gives texts to values whose type is known, until a function is given.
+    pub(crate) fn known() -> TextOf<T> {
+        TextOf(Source::Known(OnceLock::new()))
+    }
+
+    /// Uses this function from now on, if there is none. Returns whether it does.
+    pub(crate) fn give(&self, given: TextOf<T>) -> bool {
+        match (&self.0, given.0) {
+            (Source::Known(own), Source::Held(given)) => own.set(given).is_ok(),
+            _ => false,
+        }
+    }
+
+    /// Returns the text of a value, if there is a function for it or its type is known.
     pub(crate) fn text(&self, value: &T) -> Option<String> {
+        match &self.0 {
+            Source::Held(held) => held.text(value),
+            Source::Known(given) => match given.get() {
+                Some(held) => held.text(value),
+                None => erased::text_of(value).map(|text| at_most(text, MOST_BYTES)),
+            },
+        }
+    }
+}
+
+impl<T> HeldFunction<T> {
+    /// Returns the text of a value, if the recorder still holds the function.
+    fn text(&self, value: &T) -> Option<String> {
         let text = self.function.upgrade().map(|function| function(value))?;
         let most = self.most_bytes.load(Ordering::Relaxed);
-        Some(if text.len() > most {
-            cut(&text, most)
-        } else {
-            text
-        })
+        Some(at_most(text, most))
+    }
+}
+
+fn at_most(text: String, bytes: usize) -> String {
+    if text.len() > bytes {
+        cut(&text, bytes)
+    } else {
+        text
     }
 }
 
@@ -107,7 +148,7 @@ fn cut(text: &str, most: usize) -> String {
     format!("{}… ({} bytes)", start_of(text, most), text.len())
 }
 
-impl<T> Drop for TextOf<T> {
+impl<T> Drop for HeldFunction<T> {
     fn drop(&mut self) {
         let Some(texts) = self.held_by.upgrade() else {
             return;

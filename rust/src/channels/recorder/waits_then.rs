@@ -36,7 +36,7 @@ impl Shared {
             let Some(state) = try_lock_for(channel, PATIENCE) else {
                 continue;
             };
-            waits.extend(state.waits.items().map(|wait| WaitThen {
+            waits.extend(state.waits.items().values().map(|wait| WaitThen {
                 channel: Arc::downgrade(channel),
                 wait: *wait,
             }));

@@ -2,7 +2,7 @@
 
 use super::{ChannelSnapshot, ReceiverSnapshot, Snapshot, Waits};
 use crate::channels::channel::CallSite;
-use crate::run::names::Json;
+use crate::run::sidecar::Json;
 
 impl Snapshot {
     /// Returns the snapshot as JSON: an object whose member `channels` has the channels, in the

@@ -7,7 +7,7 @@ use crate::channels::handle::Kind;
 use crate::channels::of_version::only_if_tokio_has;
 use crate::channels::recorder::{Handle, RecordedHandle, TextOf};
 use crate::channels::wait::{Method, Pending, WaitFor};
-use crate::run::word::Word;
+use crate::run::operation::Operation;
 use std::fmt;
 use std::future::Future;
 use std::task::{Context, Poll};
@@ -84,7 +84,7 @@ impl<T> Receiver<T> {
 
     /// [`borrow_and_update`](Receiver::borrow_and_update), which is called here in the source.
     pub(crate) fn borrow_and_update_at(&mut self, called_at: CallSite) -> Ref<'_, T> {
-        let permit = self.handle.pass(Word::Update, called_at);
+        let permit = self.handle.pass(Operation::Update, called_at);
         let method = Method {
             name: "borrow_and_update",
             called_at,
@@ -120,7 +120,7 @@ impl<T> Receiver<T> {
     /// ```
     #[track_caller]
     pub fn has_changed(&self) -> Result<bool, RecvError> {
-        let (word, called_at) = (Word::HasChanged, call_site());
+        let (word, called_at) = (Operation::HasChanged, call_site());
         let recorded = self.handle.recorded();
         let permit = if recorded.is_quiet(self.handle.number, word, called_at) {
             None
@@ -158,8 +158,9 @@ impl<T> Receiver<T> {
     #[track_caller]
     pub fn mark_changed(&mut self) {
         only_if_tokio_has!("watch::Receiver::mark_changed");
-        self.handle
-            .call(Word::MarkChanged, CoreChannel::watch_mark_changed);
+        let mut channel = self.handle.lock(Operation::MarkChanged, call_site());
+        channel.call(CoreChannel::watch_mark_changed);
+        channel.unlock_without_wait(self.handle.slot);
     }
 
     /// Marks the last value as seen by this receiver.
@@ -183,7 +184,7 @@ impl<T> Receiver<T> {
     pub fn mark_unchanged(&mut self) {
         only_if_tokio_has!("watch::Receiver::mark_unchanged");
         self.handle
-            .call(Word::MarkUnchanged, CoreChannel::watch_mark_unchanged);
+            .call(Operation::MarkUnchanged, CoreChannel::watch_mark_unchanged);
     }
 
     /// Waits until there is a value that this receiver has not seen, and marks it as seen.
@@ -235,7 +236,7 @@ impl<T> Receiver<T> {
         };
         self.handle.poll_wait(
             WaitFor::Value,
-            Word::Changed,
+            Operation::Changed,
             method,
             pending,
             context,
@@ -296,7 +297,7 @@ impl<T> Receiver<T> {
             self.handle.give_way().await;
             loop {
                 {
-                    let (word, called_at) = (Word::WaitFor, method.called_at);
+                    let (word, called_at) = (Operation::WaitFor, method.called_at);
                     let permit = self.handle.turn(word, called_at).await;
                     let value = self.handle.borrow_by(permit, method, |channel| {
                         channel.call_that_waits(CoreChannel::watch_update);
@@ -336,7 +337,7 @@ impl<T> Clone for Receiver<T> {
         Receiver {
             handle: self.handle.create(
                 Kind::Receiver,
-                Word::CloneReceiver,
+                Operation::CloneReceiver,
                 CoreChannel::watch_clone_receiver,
             ),
         }

@@ -8,8 +8,9 @@ use crate::channels::of_version::only_if_tokio_has;
 use crate::channels::recorder::{Handle, RecordedHandle, TextOf};
 use crate::channels::turns::Permit;
 use crate::channels::wait::{Method, WaitFor};
+use crate::core::source::rw_waiting::Notice;
+use crate::run::operation::Operation;
 use crate::run::reply::Reply;
-use crate::run::word::Word;
 use std::future::Future;
 use std::sync::RwLockWriteGuard;
 use std::{fmt, mem, panic};
@@ -117,7 +118,7 @@ impl<T> Sender<T> {
         text: Option<String>,
         called_at: CallSite,
     ) -> Result<(), SendError<T>> {
-        let permit = self.handle.pass(Word::Send, called_at);
+        let permit = self.handle.pass(Operation::Send, called_at);
         match self.handle.channel.values.try_write() {
             Some(stored) => {
                 let channel = self.handle.lock_with(permit, called_at);
@@ -258,7 +259,7 @@ impl<T> Sender<T> {
             Ok(text) => (text, None),
             Err(panicked) => (None, Some(panicked)),
         };
-        let mut channel = self.handle.lock(Word::Modify, called_at);
+        let mut channel = self.handle.lock(Operation::Modify, called_at);
         channel.send(
             text,
             if notify {
@@ -269,7 +270,7 @@ impl<T> Sender<T> {
         );
         drop(value);
         if notify {
-            channel.unlock_and_wake(WaitFor::Value)
+            channel.unlock_and_wake(Notice::Sent)
         } else {
             channel.unlock()
         }
@@ -299,13 +300,13 @@ impl<T> Sender<T> {
         let text = self.handle.channel.text(&value);
         let method = Method::called("send_replace");
         let called_at = method.called_at;
-        let permit = self.handle.pass(Word::SendReplace, called_at);
+        let permit = self.handle.pass(Operation::SendReplace, called_at);
         let mut stored = self.handle.write_value(method);
         let mut channel = self.handle.lock_with(permit, called_at);
         channel.send(text, CoreChannel::watch_send_replace);
         let before = mem::replace(&mut *stored, value);
         drop(stored);
-        channel.unlock_and_wake(WaitFor::Value);
+        channel.unlock_and_wake(Notice::Sent);
         before
     }
 
@@ -348,11 +349,11 @@ impl<T> Sender<T> {
     /// ```
     #[track_caller]
     pub fn is_closed(&self) -> bool {
-        let reply = self
-            .handle
-            .ask(Word::IsClosed, CoreChannel::watch_is_closed, |core, _| {
-                Reply::flag(core.receivers() == 0)
-            });
+        let reply = self.handle.ask(
+            Operation::IsClosed,
+            CoreChannel::watch_is_closed,
+            |core, _| Reply::flag(core.receivers() == 0),
+        );
         reply == Reply::flag(true)
     }
 
@@ -384,7 +385,7 @@ impl<T> Sender<T> {
     pub fn closed(&self) -> impl Future<Output = ()> {
         let method = Method::called("closed");
         self.handle
-            .wait(WaitFor::NoReceiver, Word::Closed, method, |channel| {
+            .wait(WaitFor::NoReceiver, Operation::Closed, method, |channel| {
                 channel.call(CoreChannel::watch_closed).closed()
             })
     }
@@ -412,7 +413,7 @@ impl<T> Sender<T> {
         Receiver {
             handle: self.handle.create(
                 Kind::Receiver,
-                Word::Subscribe,
+                Operation::Subscribe,
                 CoreChannel::watch_subscribe,
             ),
         }
@@ -434,7 +435,7 @@ impl<T> Sender<T> {
     #[track_caller]
     pub fn receiver_count(&self) -> usize {
         self.handle.ask_count(
-            Word::ReceiverCount,
+            Operation::ReceiverCount,
             CoreChannel::watch_receiver_count,
             |core, _| core.receivers(),
         )
@@ -491,7 +492,7 @@ fn send_to<T>(
     let before = mem::replace(&mut *stored, value);
     // A waker may look at the value, so it is unlocked before those who wait for it are woken.
     drop(stored);
-    channel.unlock_and_wake(WaitFor::Value);
+    channel.unlock_and_wake(Notice::Sent);
     drop(before);
     Ok(())
 }
@@ -504,7 +505,7 @@ impl<T> Clone for Sender<T> {
         Sender {
             handle: self.handle.create(
                 Kind::Sender,
-                Word::CloneSender,
+                Operation::CloneSender,
                 CoreChannel::watch_clone_sender,
             ),
         }

@@ -9,7 +9,7 @@ const FREE: u64 = 20_000_000;
 /// Which part of the time of the test is spent beyond these.
 const PART: u64 = 8;
 
-/// Once that is spent, one poll of a task in so many is looked at, until twice as much is.
+/// Once that is spent, one poll of a task in this number is looked at, until twice as much is.
 const ONE_IN: u64 = 16;
 
 /// How many nanoseconds one look costs at most. What it took longer, its thread was not run.
@@ -24,8 +24,8 @@ pub(super) const LONG: u64 = 1_000_000;
 pub(super) struct Budget(AtomicU64);
 
 impl Budget {
-    /// Whether it is looked where a task waits, so many nanoseconds after the test began: in the
-    /// poll of this number, after a wait of so many nanoseconds.
+    /// Whether it is looked where a task waits, `now` nanoseconds after the test began: in the
+    /// poll of this number, after a wait of `waited` nanoseconds.
     pub(super) fn allows(&self, now: u64, poll: u64, waited: u64) -> bool {
         let spent = self.0.load(Ordering::Relaxed);
         let allowed = FREE + now / PART;
@@ -34,7 +34,7 @@ impl Budget {
             || poll % ONE_IN == 0 && spent < 2 * allowed
     }
 
-    /// Notes that one look took so many nanoseconds.
+    /// Notes how many `nanoseconds` one look took.
     pub(super) fn spend(&self, nanoseconds: u64) {
         let spent = nanoseconds.min(MOST_OF_ONE);
         self.0.fetch_add(spent, Ordering::Relaxed);

@@ -102,6 +102,12 @@ pub(super) fn ended() -> Option<u64> {
     ENDED.get()
 }
 
+/// Notes that a task ends on this thread.
+pub(super) fn note_end(task: u64) {
+    // A thread that ends may drop it.
+    let _ = ENDED.try_with(|ended| ended.set(Some(task)));
+}
+
 /// Has the polls of this thread seen by the recorder that is created in them.
 pub(super) fn bind_outer() {
     let _: Option<()> = find_running(|_, running| {

@@ -81,7 +81,7 @@ impl<T> Vec<T> {
         self.0.try_reserve(additional).map_err(|_| AllocError)
     }
 
-    /// Moves the items to a block with room for so many. At an error nothing has changed.
+    /// Moves the items to a block with room for `capacity` items. At an error nothing has changed.
     fn move_to(&mut self, capacity: usize) -> Result<(), AllocError> {
         let mut moved = Vec(std::vec::Vec::new());
         let reserved = moved.0.try_reserve_exact(capacity);

@@ -17,6 +17,7 @@ pub mod rw_navigator;
 pub mod rw_findings;
 pub mod rw_text;
 pub mod rw_values;
+pub mod rw_waiting;
 pub mod rw_recording;
 pub mod rw_desk;
 pub mod rw_script;

@@ -5,13 +5,34 @@
 use crate::harness::program::Program;
 use std::collections::HashMap;
 use std::fs;
+use std::ops::RangeInclusive;
+use std::path::{Path, PathBuf};
 use std::sync::OnceLock;
 
 /// What the attribute of a test has in its name, such as `tokio::test` and `rstest`.
 const TEST: &str = "test";
 
-/// Whether a thread with this name runs a test whose failure is a panic. One that should panic
-/// fails where it does not, and then there is nothing to report.
+/// A function that is a test, in a source of this program.
+struct TestFunction {
+    name: String,
+    should_panic: bool,
+    is_async: bool,
+    source: PathBuf,
+    /// The lines from its keyword to its end, where rustfmt puts that.
+    lines: Option<RangeInclusive<u32>>,
+    /// Whether its path is its name: it is in no module of the root file.
+    is_at_root: bool,
+}
+
+/// The functions that are tests in the sources of this program.
+struct TestFunctions {
+    all: Vec<TestFunction>,
+    /// Where those with a name are.
+    by_name: HashMap<String, Vec<usize>>,
+}
+
+/// Whether a thread with this name runs a test whose failure is a panic or an `Err`. One that
+/// should panic fails where it does not, and then there is nothing to report.
 pub(super) fn may_report(thread: &str) -> bool {
     let is_word = |word: &str| {
         word.starts_with(|c: char| c.is_alphabetic() || c == '_')
@@ -23,40 +44,86 @@ pub(super) fn may_report(thread: &str) -> bool {
     let Some(tests) = tests() else {
         return true;
     };
-    // A test of several cases is a module that has one function for each.
-    let mut names = thread.rsplit("::").take(2);
-    names
-        .find_map(|name| tests.get(name))
-        .is_some_and(|should_panic| !should_panic)
+    of_thread(tests, thread).is_some_and(|mut of_name| of_name.any(|test| !test.should_panic))
 }
 
-/// Returns the functions that are tests in the sources of this program, with whether each should
-/// panic. `None` where no source can be read.
-fn tests() -> Option<&'static HashMap<String, bool>> {
-    static TESTS: OnceLock<Option<HashMap<String, bool>>> = OnceLock::new();
+/// Returns the functions that may be the test with this path. A test of several cases is a module
+/// that has one function for each.
+fn of_thread<'a>(
+    tests: &'a TestFunctions,
+    path: &str,
+) -> Option<impl Iterator<Item = &'a TestFunction>> {
+    let mut names = path.rsplit("::").take(2);
+    let found = names.find_map(|name| tests.by_name.get(name))?;
+    Some(found.iter().map(|index| &tests.all[*index]))
+}
+
+/// Whether the test with this path is a future, on which its attribute has its thread block. Then
+/// what that returns is what the test does.
+pub(super) fn is_async(path: &str) -> bool {
+    let of_name = tests().and_then(|tests| of_thread(tests, path));
+    let mut found = of_name.into_iter().flatten().peekable();
+    found.peek().is_some() && found.all(|test| test.is_async)
+}
+
+/// Returns the test whose function has this place in the sources: its name, and its path if that is
+/// known.
+pub(super) fn test_at(file: &str, line: u32) -> Option<(&'static str, Option<&'static str>)> {
+    let tests = tests()?;
+    let source = Program::this().root_of(&[Path::new(file)])?.join(file);
+    let has_line = |test: &&TestFunction| {
+        test.source == source
+            && test
+                .lines
+                .as_ref()
+                .is_some_and(|lines| lines.contains(&line))
+    };
+    let mut around = tests.all.iter().filter(has_line);
+    let found = around.next()?;
+    // Where there are several, an end isn't where rustfmt puts it.
+    if around.next().is_some() || found.should_panic {
+        return None;
+    }
+    Some((&found.name, found.is_at_root.then_some(&*found.name)))
+}
+
+/// Returns the functions that are tests in the sources of this program. `None` where no source can
+/// be read.
+fn tests() -> Option<&'static TestFunctions> {
+    static TESTS: OnceLock<Option<TestFunctions>> = OnceLock::new();
     let tests = TESTS.get_or_init(|| {
         let sources = Program::this().sources();
-        let texts: Vec<_> = sources
-            .iter()
-            .filter_map(|path| fs::read_to_string(path).ok())
-            .collect();
-        let mut tests = HashMap::new();
-        for (name, should_panic) in texts.iter().flat_map(|text| tests_in(text)) {
-            // Of two with the same name, one that may be reported is.
-            *tests.entry(name.to_string()).or_insert(true) &= should_panic;
-        }
-        (!texts.is_empty()).then_some(tests)
+        let read = |path: PathBuf| fs::read_to_string(&path).ok().map(|text| (path, text));
+        let texts: Vec<_> = sources.into_iter().map(read).collect();
+        let is_any_read = texts.iter().any(Option::is_some);
+        let of_source = (0..)
+            .zip(&texts)
+            .filter_map(|(nth, read)| Some((nth, read.as_ref()?)));
+        let tests = of_source.flat_map(|(nth, (path, text))| tests_in(path, text, nth == 0));
+        is_any_read.then(|| TestFunctions::of(tests.collect()))
     });
     tests.as_ref()
 }
 
-/// Returns the functions of a source that are tests, with whether each should panic.
-fn tests_in(text: &str) -> impl Iterator<Item = (&str, bool)> {
-    text.match_indices("fn ").filter_map(|(at, keyword)| {
+impl TestFunctions {
+    fn of(all: Vec<TestFunction>) -> TestFunctions {
+        let mut by_name: HashMap<_, Vec<_>> = HashMap::new();
+        for (index, test) in all.iter().enumerate() {
+            by_name.entry(test.name.clone()).or_default().push(index);
+        }
+        TestFunctions { all, by_name }
+    }
+}
+
+/// Returns the functions of a source that are tests.
+fn tests_in(path: &Path, text: &str, is_root: bool) -> Vec<TestFunction> {
+    let lines: Vec<_> = text.lines().collect();
+    let functions = text.match_indices("fn ").filter_map(|(at, keyword)| {
         let is_end = |c: char| !(c.is_alphanumeric() || c == '_');
         let rest = &text[at + keyword.len()..];
         let name = &rest[..rest.find(is_end)?];
-        let mut attributes = attributes_before(&text[..at]).peekable();
+        let (before, is_async) = without_qualifiers(&text[..at]);
+        let mut attributes = attributes_before(before).peekable();
         attributes.peek()?;
         let (mut is_test, mut should_panic) = (false, false);
         for attribute in attributes {
@@ -64,14 +131,40 @@ fn tests_in(text: &str) -> impl Iterator<Item = (&str, bool)> {
             is_test |= path.contains(TEST);
             should_panic |= path == "should_panic";
         }
-        is_test.then_some((name, should_panic))
-    })
+        let first = text[..at].matches('\n').count();
+        is_test.then(|| TestFunction {
+            name: name.to_string(),
+            should_panic,
+            is_async,
+            source: path.to_path_buf(),
+            lines: lines_of(&lines, first),
+            is_at_root: is_root && !lines[first].starts_with(char::is_whitespace),
+        })
+    });
+    functions.collect()
 }
 
-/// Returns the attributes of the function whose keyword follows this text, the last one first.
-fn attributes_before(text: &str) -> impl Iterator<Item = &str> {
-    let mut before = text.trim_end();
-    // What may stand between the attributes and the keyword.
+/// Returns the numbers of the lines of a function whose keyword is in the line with this index. Its
+/// last one has a bracket below the beginning of that line.
+fn lines_of(lines: &[&str], first: usize) -> Option<RangeInclusive<u32>> {
+    let line = lines.get(first)?;
+    let indent = &line[..line.len() - line.trim_start().len()];
+    let is_whole = line.contains('{') && line.matches('{').count() == line.matches('}').count();
+    let is_end = |line: &&str| {
+        line.strip_prefix(indent)
+            .is_some_and(|rest| rest.trim_end() == "}")
+    };
+    let last = if is_whole {
+        first
+    } else {
+        first + 1 + lines[first + 1..].iter().position(is_end)?
+    };
+    Some(first as u32 + 1..=last as u32 + 1)
+}
+
+/// Returns a text without what may be between the attributes of a function and its keyword, and
+/// whether the function is `async`.
+fn without_qualifiers(text: &str) -> (&str, bool) {
     const QUALIFIERS: [&str; 7] = [
         "pub",
         "pub(crate)",
@@ -81,9 +174,17 @@ fn attributes_before(text: &str) -> impl Iterator<Item = &str> {
         "unsafe",
         "extern \"C\"",
     ];
-    while let Some(shorter) = QUALIFIERS.iter().find_map(|it| before.strip_suffix(it)) {
-        before = shorter.trim_end();
+    let (mut before, mut is_async) = (text.trim_end(), false);
+    while let Some(found) = QUALIFIERS.iter().find(|it| before.ends_with(*it)) {
+        is_async |= *found == "async";
+        before = before[..before.len() - found.len()].trim_end();
     }
+    (before, is_async)
+}
+
+/// Returns the attributes at the end of this text, the last one first.
+fn attributes_before(text: &str) -> impl Iterator<Item = &str> {
+    let mut before = text;
     std::iter::from_fn(move || {
         before = without_comments(before);
         let inside = before.strip_suffix(']')?;
@@ -149,14 +250,34 @@ mod tests {
             #[cfg(test)]
             mod tests { fn inner() {} }
         "#;
-        let found: Vec<_> = tests_in(source).collect();
+        let found = tests_in(Path::new("tests/bus.rs"), source, true);
+        let told = found
+            .iter()
+            .map(|test| (&*test.name, test.should_panic, test.is_async));
         let wanted = [
-            ("plain", false),
-            ("on_tokio", false),
-            ("refused", true),
-            ("cases", false),
+            ("plain", false, false),
+            ("on_tokio", false, true),
+            ("refused", true, false),
+            ("cases", false, true),
         ];
-        assert_eq!(found, wanted);
+        assert_eq!(told.collect::<Vec<_>>(), wanted);
+        assert!(found.iter().all(|test| !test.is_at_root));
+    }
+
+    #[test]
+    fn a_place_is_in_the_function_that_has_its_line() {
+        let source = "#[test]\nfn one() { work(); }\n\n#[test]\nfn several() {\n    if true {\n    }\n}\n\nmod inner {\n    #[test]\n    fn within() {\n        work();\n    }\n}\n";
+        let found = tests_in(Path::new("tests/bus.rs"), source, true);
+        let told = found
+            .iter()
+            .map(|test| (&*test.name, test.lines.clone().unwrap(), test.is_at_root));
+        let wanted = [
+            ("one", 2..=2, true),
+            ("several", 5..=8, true),
+            ("within", 12..=14, false),
+        ];
+        assert_eq!(told.collect::<Vec<_>>(), wanted);
+        assert_eq!(lines_of(&["fn endless() {", "  }"], 0), None);
     }
 
     #[test]

@@ -3,7 +3,7 @@
 use super::settings::RUNS;
 use crate::channels::recorder::Shared;
 use crate::channels::standard_error::say;
-use crate::run::debugger::named::{NamedCondition, Things};
+use crate::run::debugger::named::{Entities, NamedCondition};
 use crate::run::debugger::{Walk, recorded};
 use crate::schedule::explore::{condition, is_of_session};
 use std::panic::{self, AssertUnwindSafe};
@@ -79,7 +79,7 @@ fn found(recorder: &Shared, last: u64, asked: &NamedCondition) -> io::Result<(An
     let (run, names) = recorder.run().with_names()?;
     let until = run.place_of_stamp(last);
     let (mut walk, recorded) = recorded::opened(run, names).map_err(io::Error::other)?;
-    let things = Things::found_in(&walk, &recorded);
+    let things = Entities::found_in(&walk, &recorded);
     let condition = asked.by_numbers(&things).filter(|_| asked.is_of(&things));
     let Some(condition) = condition else {
         let names = things.names_of(asked.sort);

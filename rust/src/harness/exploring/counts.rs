@@ -5,7 +5,7 @@ use super::process::FailureMark;
 use super::search::{Search, Task};
 use crate::harness::program;
 use crate::run::account::visible;
-use crate::run::names::push_string;
+use crate::run::sidecar::push_string;
 use crate::schedule::explore::Schedule;
 use std::collections::{BTreeMap, HashSet};
 use std::fmt::Write;
@@ -242,7 +242,7 @@ fn push_found(json: &mut String, found: Option<&FailingOrder>) {
     }
 }
 
-/// Says that all orders of a kind passed, of which there are so many.
+/// Says that all orders of a kind passed, of which there are `count`.
 pub(super) fn all(count: u64, which: &str) -> String {
     match count {
         1 => format!("the one order {which} passed"),

@@ -7,7 +7,7 @@ use super::race;
 use super::search::{Search, Task};
 use super::shorten::Failing;
 use crate::run::account::visible;
-use crate::run::names::push_string;
+use crate::run::sidecar::push_string;
 use crate::schedule::explore::{Order, OrderKind};
 use std::fmt::Write;
 use std::path::{Path, PathBuf};

@@ -1,6 +1,6 @@
 //! The switches of a schedule, in words.
 
-use crate::run::word::Word;
+use crate::run::operation::Operation;
 use crate::schedule::explore::{Schedule, Step, Turn, What};
 use std::fmt::Write as _;
 
@@ -117,7 +117,7 @@ fn push(said: &mut String, start: &str, call: &Step, schedule: &Schedule, file: 
 
 /// Returns the method that makes the call for which a journal has this word.
 fn method(word: &str) -> &str {
-    match Word::of_text(word) {
+    match Operation::of_text(word) {
         Some(word) => word.method(),
         None => word,
     }

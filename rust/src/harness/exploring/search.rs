@@ -11,7 +11,7 @@ const ORDERS_KEPT: usize = 100_000;
 /// How many switches the search has at most.
 const SWITCHES: usize = 1;
 
-/// Of so many orders one is guided, where the test is explored for a condition.
+/// One order in this number is guided, where the test is explored for a condition.
 const BETWEEN_GUIDED: u64 = 4;
 
 /// The steps at which an order isn't the one without a switch.

@@ -112,7 +112,7 @@ struct Session {
     counts: Mutex<Counts>,
     found: Mutex<Option<(Task, Ran)>>,
     /// What there is in the runs of what the condition names.
-    there: Mutex<There>,
+    there: Mutex<SeenNames>,
     is_over: AtomicBool,
     began: Instant,
     progress: Progress,
@@ -120,7 +120,7 @@ struct Session {
 
 /// Whether there was anything of the condition's name in any run, and what else there was.
 #[derive(Default)]
-struct There {
+struct SeenNames {
     is_any: bool,
     is_answered: bool,
     names: BTreeSet<String>,

@@ -1,8 +1,9 @@
 //! Names of files for names of tests.
 
 use crate::channels::cut::start_of;
+use crate::harness::automatic::PASSED;
 use crate::harness::replaying::REPLAYED;
-use crate::run::names::checksum;
+use crate::run::sidecar::checksum;
 use std::fmt::Write;
 
 /// How many bytes a name has at most. Systems take 143 at least, and endings follow.
@@ -14,9 +15,10 @@ const MOST_BYTES: usize = 100;
 pub(in crate::harness) fn file_name(name: &str) -> String {
     let mut out = String::new();
     for (at, c) in name.char_indices() {
-        // A point at the beginning hides a file, and one before this word would make it the file of
-        // a replay.
-        let is_special_point = c == '.' && (at == 0 || &name[at..] == REPLAYED);
+        // A point at the beginning hides a file, and one before these words would make it the file
+        // of a replay, or of a run that passed.
+        let is_ending = [REPLAYED, PASSED].contains(&&name[at..]);
+        let is_special_point = c == '.' && (at == 0 || is_ending);
         if is_plain(c) && !is_special_point {
             out.push(c)
         } else {

@@ -55,8 +55,8 @@ impl DumpTo {
         self
     }
 
-    /// Writes a dump when a receiver is told that it has lost at least so many values, by
-    /// `Lagged`.
+    /// Writes a dump when a receiver is told, by `Lagged`, that it has lost at least this number of
+    /// values.
     ///
     /// # Examples
     ///
@@ -95,6 +95,7 @@ impl DumpTo {
     /// The first recorder of a process that does so sets a hook for panics, which calls the
     /// previous hook after it. If the thread is the main one, or the process ends with the panic,
     /// the hook waits for the dump, 5 seconds at most. What that thread has locked is left out.
+    /// Each panic has a dump, unless 8 such ones are not yet written.
     ///
     /// # Examples
     ///
@@ -109,8 +110,9 @@ impl DumpTo {
         self
     }
 
-    /// Begins no dump within this time after the last one, unless somebody
-    /// [asks](crate::Recorder::dump) for it. Without this call it is a minute.
+    /// Begins no dump for a lag within this time after the last one for a lag, and so for channels
+    /// that close. Panics have one in any case, and so has who [asks](crate::Recorder::dump).
+    /// Without this call it is a minute.
     ///
     /// # Examples
     ///
@@ -125,8 +127,12 @@ impl DumpTo {
         self.set(|settings| settings.at_most_every = time)
     }
 
-    /// Keeps the last dumps of the folder, so many of them, and removes older ones, whichever
-    /// process has written them. Without this call they are 16. One is kept at least.
+    /// Keeps the last `dumps` dumps of the folder, and removes older ones, whichever process has
+    /// written them. Dumps that have a later time than now are removed first, since the
+    /// clock was set back. Without this call 16 are kept. One is kept at least.
+    ///
+    /// What is left of a dump that was never whole, since its process was killed, doesn't count. It
+    /// is removed once it is ten minutes old.
     ///
     /// # Examples
     ///

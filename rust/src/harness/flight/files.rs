@@ -1,15 +1,19 @@
 //! The files of dumps.
 
+mod kept;
+mod own;
+
+pub(super) use kept::keep;
+
 use crate::channels::atomic::AtomicU64;
 use crate::harness::files::beside;
 use crate::run::clock::date;
-use std::collections::{BTreeMap, BTreeSet};
 use std::path::{Path, PathBuf};
 use std::sync::atomic::Ordering;
 use std::{fs, io, process};
 
 /// What the names of all dumps begin with.
-const START: &str = "flight-";
+pub(super) const START: &str = "flight-";
 
 /// Returns the name of a dump that is begun at this time, in milliseconds since 1970, without its
 /// ending. Names are in the order of their times.
@@ -28,7 +32,7 @@ pub(super) fn name(at: Option<u64>) -> String {
 }
 
 /// Returns a time as in `20261129T031245120Z`.
-fn time_in_digits(at: u64) -> String {
+pub(super) fn time_in_digits(at: u64) -> String {
     let (days, ms) = (at / 86_400_000, at % 86_400_000);
     let (year, month, day) = date(days);
     let (hours, minutes) = (ms / 3_600_000, ms / 60_000 % 60);
@@ -38,8 +42,13 @@ fn time_in_digits(at: u64) -> String {
 
 /// Writes a dump: its names, and then its journal, so that whoever finds a journal finds its names.
 /// Each is whole when it gets its name. Returns the path of the journal.
+///
+/// They have texts of values, so nobody but the user of the process reads them, nor the folder, if
+/// it is created for them.
 pub(super) fn write(path: &Path, journal: &str, names: &str) -> io::Result<PathBuf> {
-    path.parent().map_or(Ok(()), fs::create_dir_all)?;
+    if let Some(folder) = path.parent() {
+        own::create_folder(folder).map_err(|error| of_path(folder, error))?;
+    }
     let (journal_path, names_path) = (path.with_extension("journal"), path.with_extension("names"));
     write_whole(&names_path, names.as_bytes())?;
     write_whole(&journal_path, journal.as_bytes()).inspect_err(|_| {
@@ -50,55 +59,16 @@ pub(super) fn write(path: &Path, journal: &str, names: &str) -> io::Result<PathB
 
 fn write_whole(path: &Path, bytes: &[u8]) -> io::Result<()> {
     let beside = beside(path);
-    let written = fs::write(&beside, bytes).and_then(|()| fs::rename(&beside, path));
-    written.inspect_err(|_| {
+    let written = own::write(&beside, bytes).and_then(|()| fs::rename(&beside, path));
+    written.map_err(|error| {
         let _ = fs::remove_file(&beside);
+        of_path(path, error)
     })
 }
 
-/// Removes all dumps of a folder but the last ones.
-pub(super) fn keep(folder: &Path, keep: usize) {
-    let files = match fs::read_dir(folder) {
-        Ok(files) => files,
-        Err(error) => {
-            let folder = folder.display();
-            eprintln!("yovanelum: older dumps in {folder} aren't removed: {error}");
-            return;
-        }
-    };
-    let mut dumps: BTreeMap<String, BTreeSet<PathBuf>> = BTreeMap::new();
-    for file in files.flatten() {
-        let name = file.file_name();
-        if let Some(dump) = name.to_str().and_then(dump_of) {
-            dumps
-                .entry(dump.to_string())
-                .or_default()
-                .insert(file.path());
-        }
-    }
-    let too_many = dumps.len().saturating_sub(keep);
-    for path in dumps.values().take(too_many).flatten() {
-        // Another process may have removed it.
-        if let Err(error) = fs::remove_file(path) {
-            if error.kind() != io::ErrorKind::NotFound {
-                eprintln!("yovanelum: {} isn't removed: {error}", path.display());
-            }
-        }
-    }
-}
-
-/// Returns the dump that a file is one of, if it is.
-fn dump_of(file: &str) -> Option<&str> {
-    let (dump, ending) = file.split_once('.')?;
-    let mut parts = dump.strip_prefix(START)?.split('-');
-    let (time, process, number) = (parts.next()?, parts.next()?, parts.next()?);
-    let is_number = |text: &str| !text.is_empty() && text.bytes().all(|it| it.is_ascii_digit());
-    let (day, rest) = time.split_once('T')?;
-    let is_time = is_number(day) && is_number(rest.strip_suffix('Z')?);
-    let is_part = ending.ends_with(".part");
-    let is_dump = matches!(ending, "journal" | "names") || is_part;
-    let is_whole = parts.next().is_none() && is_number(process) && is_number(number);
-    (is_dump && is_time && is_whole).then_some(dump)
+/// Returns an error that says which path it is about.
+fn of_path(path: &Path, error: io::Error) -> io::Error {
+    io::Error::new(error.kind(), format!("{}: {error}", path.display()))
 }
 
 #[cfg(test)]
@@ -118,48 +88,6 @@ mod tests {
         ] {
             assert_eq!(time_in_digits(at), wanted);
         }
-    }
-
-    #[test]
-    fn the_last_dumps_stay_and_what_is_no_dump() {
-        let folder = crate::temporary::path("flight-kept");
-        let _ = fs::remove_dir_all(&folder);
-        let dumps = [
-            "20260101T000000000Z-9-1",
-            "20260101T000000001Z-8-1",
-            "20260102T000000000Z-7-9",
-        ];
-        for dump in dumps {
-            write(&folder.join(format!("{START}{dump}")), "j", "n").unwrap();
-        }
-        let others = [
-            "flight-1.journal",
-            "flight-20260101T0Z-1-1-1.names",
-            "a.journal",
-            "flight-20260101T0Z-1-1.html",
-        ];
-        for other in others {
-            fs::write(folder.join(other), "").unwrap();
-        }
-        let part = folder.join(format!("{START}{}.journal.9-1.part", dumps[0]));
-        fs::write(&part, "").unwrap();
-        keep(&folder, 2);
-        let files = fs::read_dir(&folder).unwrap();
-        let mut left: Vec<_> = files
-            .map(|it| it.unwrap().file_name().into_string().unwrap())
-            .collect();
-        left.sort();
-        let mut wanted: Vec<_> = others.map(str::to_string).to_vec();
-        for dump in &dumps[1..] {
-            wanted.extend(["journal", "names"].map(|ending| format!("{START}{dump}.{ending}")));
-        }
-        wanted.sort();
-        assert_eq!(left, wanted);
-        // One by one: a WebAssembly runner that lists files while they are removed leaves some out.
-        for file in left {
-            fs::remove_file(folder.join(file)).unwrap();
-        }
-        fs::remove_dir(&folder).unwrap();
     }
 
     #[test]
@@ -183,8 +111,29 @@ mod tests {
         let path = folder.join("flight-20260101T000000000Z-9-1");
         // A folder is in the journal's place.
         fs::create_dir_all(path.with_extension("journal").join("x")).unwrap();
-        assert!(write(&path, "j", "n").is_err());
+        let error = write(&path, "j", "n").unwrap_err().to_string();
+        let wanted = format!("{}: ", path.with_extension("journal").display());
+        assert!(error.starts_with(&wanted), "{error}");
         assert_eq!(fs::read_dir(&folder).unwrap().count(), 1);
+        fs::remove_dir_all(&folder).unwrap();
+    }
+
+    #[test]
+    #[cfg(unix)]
+    fn nobody_else_reads_a_dump_or_its_folder() {
+        use std::os::unix::fs::PermissionsExt;
+        let folder = crate::temporary::path("flight-modes");
+        let _ = fs::remove_dir_all(&folder);
+        let path = folder.join("new").join("flight-20260101T000000000Z-9-1");
+        let journal = write(&path, "j", "n").unwrap();
+        let mode = |path: &Path| fs::metadata(path).unwrap().permissions().mode() & 0o777;
+        let modes = [
+            path.parent().unwrap(),
+            &journal,
+            &path.with_extension("names"),
+        ]
+        .map(mode);
+        assert_eq!(modes, [0o700, 0o600, 0o600]);
         fs::remove_dir_all(&folder).unwrap();
     }
 }

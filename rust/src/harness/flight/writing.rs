@@ -2,16 +2,23 @@
 //! writes it.
 
 use super::files;
+use crate::channels::lock::lock;
 use crate::channels::recorder::{DumpRequest, PATIENCE};
 use crate::harness::program::Program;
-use crate::harness::saved::text_of;
+use crate::harness::saved::{Copied, text_of};
 use crate::harness::window_names::raise_ending;
 use crate::harness::windows::Most;
-use crate::run::clock::Moment;
-use crate::run::names::Names;
+use crate::run::clock::{Moment, wall};
+use crate::run::sidecar::Sidecar;
+use crate::run::sorting::sort_by_key;
 use std::collections::TryReserveError;
 use std::io;
 use std::path::PathBuf;
+use std::sync::Mutex;
+
+/// Held while a dump of this process is made and written, so that no two have their memory at once.
+/// Their calls are copied before.
+static TURN: Mutex<()> = Mutex::new(());
 
 fn no_memory(_: TryReserveError) -> io::Error {
     io::Error::other("no memory for the names")
@@ -19,19 +26,21 @@ fn no_memory(_: TryReserveError) -> io::Error {
 
 /// Writes a dump, and returns the path of its journal.
 pub(super) fn write(request: &mut DumpRequest) -> io::Result<PathBuf> {
-    let (journal, names) = made(request)?;
+    let copied = copied(request)?;
+    let _turn = lock(&TURN);
+    let (journal, names) = made(request, copied)?;
     let mut json = String::new();
     // What the names have of a call is shorter than what the journal has.
     json.try_reserve(journal.len()).map_err(no_memory)?;
     names.push_json(&mut json);
     let path = request.folder.join(files::name(request.why.at));
     let path = files::write(&path, &journal, &json)?;
-    files::keep(&request.folder, request.keep);
+    files::keep(&path, request.keep, wall());
     Ok(path)
 }
 
-/// Returns the journal and its names.
-fn made(request: &mut DumpRequest) -> io::Result<(String, Names)> {
+/// Copies the channels' last calls.
+fn copied(request: &mut DumpRequest) -> io::Result<Copied> {
     let recorder = &request.recorder.0;
     // A thread that panics may have locked a channel, and may wait for this one.
     let run = match &request.panic {
@@ -41,8 +50,11 @@ fn made(request: &mut DumpRequest) -> io::Result<(String, Names)> {
             .ok_or_else(|| io::Error::other("the panicking thread has locked its recorder"))?,
     };
     let own = request.own.take().and_then(|own| run.number_of(own));
-    let copied = run.copied(own, request.last)?;
-    drop(run);
+    run.copied(own, request.last)
+}
+
+/// Returns the journal of these calls, and its names.
+fn made(request: &mut DumpRequest, copied: Copied) -> io::Result<(String, Sidecar)> {
     let most = Most::of_dump(copied.channels.len(), copied.wanted);
     let read = copied.into_run(request.why.clone(), most)?;
     let (mut names, journal) = (read.names, text_of(&read.run)?);
@@ -55,7 +67,7 @@ fn made(request: &mut DumpRequest) -> io::Result<(String, Names)> {
         ..began
     });
     names.times.extend(began);
-    names.times.sort_by_key(|moment| moment.stamp);
+    sort_by_key(&mut names.times, |moment| moment.stamp);
     names.fit_to(&read.run, &journal);
     names.add_sources(|paths| Program::this().root_of(paths));
     Ok((journal, names))

@@ -1,7 +1,7 @@
 //! How cargo was told to build this program: what a later command has to say for the same build.
 
 use super::{Program, TargetKind};
-use crate::harness::facade;
+use crate::harness::stand_in;
 use std::path::Path;
 use std::sync::OnceLock;
 use std::{env, fs};
@@ -82,7 +82,7 @@ pub(crate) fn is_patched() -> bool {
 /// Returns the folder of the package in tokio's place, if it is part of the build.
 fn patch() -> Option<String> {
     let said = PATCH.get().map(|folder| folder.to_string());
-    said.or_else(|| is_patched().then(facade::folder_of_build))
+    said.or_else(|| is_patched().then(stand_in::folder_of_build))
 }
 
 /// What a command has to say for the same build as that of this program.

@@ -11,7 +11,7 @@ mod words;
 
 use super::visible;
 use crate::run::journal::Run;
-use crate::run::names::{Json, Names};
+use crate::run::sidecar::{Json, Sidecar};
 use side::{Keys, Side, SideCall};
 
 /// By what a call differs from the one that it is aligned with.
@@ -77,14 +77,14 @@ pub(crate) struct Against {
 
 impl Against {
     /// Aligns a run with another one. Each has the names beside it.
-    pub(crate) fn of(here: (&Run, &Names), there: (&Run, &Names)) -> Against {
+    pub(crate) fn of(here: (&Run, &Sidecar), there: (&Run, &Sidecar)) -> Against {
         Against::told(here, there, &mut ())
     }
 
     /// The same, and tells a listener how each channel and each call is aligned.
     pub(crate) fn told(
-        here: (&Run, &Names),
-        there: (&Run, &Names),
+        here: (&Run, &Sidecar),
+        there: (&Run, &Sidecar),
         listener: &mut impl Listener,
     ) -> Against {
         let both = Both {

@@ -9,9 +9,10 @@ use super::nothing_came::NothingCame;
 use super::reading::{self, ReadUpTo};
 use super::{Context, visible};
 use crate::run::journal::RunEntry;
-use crate::run::names::Json;
+use crate::run::operation::Operation;
 use crate::run::reply::Reply;
-use crate::run::word::Word;
+use crate::run::sidecar::Json;
+use crate::run::sorting::sort_by_key;
 
 /// How many receivers are named.
 const NAMED: usize = 2;
@@ -36,12 +37,12 @@ pub(super) fn found(context: &Context<'_>) -> Option<Answered> {
     let place = named.or(failure.other_last_call())?;
     let entry = context.run.entry(place);
     let is_answered = match entry.word {
-        Word::HasChanged => matches!(entry.reply, Reply::Flag(_)),
-        Word::ReceiverLen | Word::SenderLen | Word::ReceiverCount => {
+        Operation::HasChanged => matches!(entry.reply, Reply::Flag(_)),
+        Operation::ReceiverLen | Operation::SenderLen | Operation::ReceiverCount => {
             matches!(entry.reply, Reply::Count(_))
         }
         // It had more receivers before.
-        Word::Send => {
+        Operation::Send => {
             let dropped = || reading::last_drop(context, entry.channel, place);
             matches!(entry.reply, Reply::Sent(_)) && dropped().is_some()
         }
@@ -63,7 +64,9 @@ impl Answered {
     /// Whether it tells that this receiver has not marked a change.
     pub(super) fn tells_of(&self, context: &Context<'_>, receiver: (u32, u32)) -> bool {
         let entry = context.run.entry(self.place);
-        self.is_why && entry.word == Word::HasChanged && (entry.channel, entry.handle) == receiver
+        self.is_why
+            && entry.word == Operation::HasChanged
+            && (entry.channel, entry.handle) == receiver
     }
 }
 
@@ -71,9 +74,9 @@ impl Answered {
 pub(super) fn fact(context: &Context<'_>, Answered { place, .. }: &Answered) -> Fact {
     let entry = context.run.entry(*place);
     let because = match entry.word {
-        Word::HasChanged => has_changed(context, *place, &entry),
-        Word::ReceiverLen => receiver_len(context, *place, &entry),
-        Word::SenderLen => sender_len(context, *place, &entry),
+        Operation::HasChanged => has_changed(context, *place, &entry),
+        Operation::ReceiverLen => receiver_len(context, *place, &entry),
+        Operation::SenderLen => sender_len(context, *place, &entry),
         _ => receiver_count(context, *place, &entry),
     };
     let lead = context.history.lead;
@@ -169,7 +172,7 @@ fn nothing_new(context: &Context<'_>, place: u64, entry: &RunEntry) -> Because {
     }
 }
 
-/// A receiver of a broadcast has so many values left.
+/// A receiver of a broadcast has a given number of values left.
 fn receiver_len(context: &Context<'_>, place: u64, entry: &RunEntry) -> Because {
     let naming = context.naming;
     let reading = ReadUpTo::of(context, entry.channel, place);
@@ -198,7 +201,7 @@ fn receiver_len(context: &Context<'_>, place: u64, entry: &RunEntry) -> Because 
 }
 
 fn in_order(mut calls: Vec<(u64, Role, &'static str)>) -> Vec<(u64, Role, &'static str)> {
-    calls.sort_by_key(|(place, ..)| *place);
+    sort_by_key(&mut calls, |(place, ..)| *place);
     calls
 }
 
@@ -253,7 +256,7 @@ fn overwritten_before(context: &Context<'_>, channel: u32, count: u64) -> String
     format!("; {values} before that {were} overwritten ({capacity})")
 }
 
-/// A channel has so many receivers, or a send reached so many.
+/// A channel has a given number of receivers, or a send reached a given number of them.
 fn receiver_count(context: &Context<'_>, place: u64, entry: &RunEntry) -> Because {
     let naming = context.naming;
     let full = |receiver: u32| naming.receiver(entry.channel, receiver).full;
@@ -270,7 +273,7 @@ fn receiver_count(context: &Context<'_>, place: u64, entry: &RunEntry) -> Becaus
     });
     let channel = naming.channel(entry.channel);
     let has = match entry.word {
-        Word::Send => format!("a send of {channel} reached"),
+        Operation::Send => format!("a send of {channel} reached"),
         _ => format!("{channel} has"),
     };
     Because {

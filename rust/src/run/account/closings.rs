@@ -5,8 +5,9 @@ use super::fact::{Fact, FactStep, Role};
 use super::finding::orders;
 use super::{Context, visible};
 use crate::run::journal::{Closing, LateReader, Spec};
-use crate::run::names::Json;
 use crate::run::reply::Reply;
+use crate::run::sidecar::Json;
+use crate::run::sorting::sort_by_key;
 
 /// How many receivers that were not told are named.
 const NAMED: usize = 3;
@@ -59,7 +60,9 @@ pub(super) fn found(context: &Context<'_>) -> Vec<Closed> {
         })
         .filter(|closed| !closed.receivers.is_empty())
         .collect();
-    closed.sort_by_key(|closed| (closed.is_known(), closed.closing.place));
+    sort_by_key(&mut closed, |closed| {
+        (closed.is_known(), closed.closing.place)
+    });
     closed
 }
 

@@ -3,7 +3,8 @@
 use super::columns::{self, Cells};
 use super::finding::orders;
 use super::times::CallTime;
-use crate::run::names::{Json, SourceLocation};
+use crate::run::sidecar::{Json, SourceLocation};
+use std::iter;
 
 /// What a step is to a fact.
 #[derive(Clone, Copy, Debug, PartialEq, Eq)]
@@ -76,6 +77,8 @@ pub(crate) struct FactStep {
     pub(crate) actor: Option<u64>,
     /// Where it is in the sources.
     pub(crate) location: Option<SourceLocation>,
+    /// Where the sender or receiver of the call was created.
+    pub(super) made: Option<SourceLocation>,
     /// When it was called.
     pub(super) time: Option<CallTime>,
     pub(super) cells: Cells,
@@ -86,6 +89,22 @@ impl FactStep {
     pub(crate) fn name(&self) -> &str {
         &self.cells[0]
     }
+
+    /// Returns where it is for those who have the user's sources alone: where a library called, as
+    /// the stream of a receiver does, the receiver was created.
+    pub(crate) fn own_location(&self) -> Option<&SourceLocation> {
+        own_location(self.location.as_ref(), self.made.as_ref())
+    }
+}
+
+/// Returns a place in the user's sources: that of a call, or else where its handle was created.
+pub(super) fn own_location<'a>(
+    called: Option<&'a SourceLocation>,
+    made: Option<&'a SourceLocation>,
+) -> Option<&'a SourceLocation> {
+    let called = called?;
+    let mut both = iter::once(called).chain(made);
+    both.find(|location| !location.is_downloaded())
 }
 
 /// How much a fact says of the failure.
@@ -145,16 +164,51 @@ impl Fact {
     /// Returns its lines. That of a step comes after the first line and those of the steps before
     /// it.
     pub(crate) fn text(&self) -> Vec<String> {
+        self.text_without(&[])
+    }
+
+    /// Returns its lines without those of the steps at these places in the run.
+    pub(crate) fn text_without(&self, places: &[u64]) -> Vec<String> {
         let mut text = vec![self.head.clone()];
-        text.extend(columns::aligned(self.steps.iter().map(|step| &step.cells)));
+        let steps = self.steps.iter();
+        let others = steps.filter(|step| !places.contains(&step.place));
+        text.extend(columns::aligned(others.map(|step| &step.cells)));
         text.extend(self.last.clone());
         text.extend(self.late.iter().map(|late| format!("  late: {late}")));
         text
+    }
+
+    /// Returns what happened in a step, for a line of the sources: what was called, by whom, and
+    /// what there is to say of it.
+    pub(crate) fn label(&self, step: &FactStep) -> String {
+        let [_, called, who, _, more] = &step.cells;
+        let is_by_several = self.steps.iter().any(|other| other.cells[2] != *who);
+        let by = if is_by_several && !who.is_empty() {
+            format!(" by {who}")
+        } else {
+            String::new()
+        };
+        let called = match called.strip_prefix("told:") {
+            Some(told) => format!("told here:{told}"),
+            None => called.clone(),
+        };
+        let more = if more.is_empty() {
+            String::new()
+        } else {
+            format!(", {more}")
+        };
+        called + &by + &more
     }
 
     /// Returns the steps with a known place in the sources, the one that is worth most first.
     pub(crate) fn sights(&self) -> impl Iterator<Item = (&FactStep, &SourceLocation)> {
         let steps = self.sights.iter().map(|index| &self.steps[*index]);
         steps.filter_map(|step| Some((step, step.location.as_ref()?)))
+    }
+
+    /// Returns the first of those places that is in the user's sources.
+    pub(crate) fn own_location(&self) -> Option<&SourceLocation> {
+        let mut steps = self.sights.iter().map(|index| &self.steps[*index]);
+        steps.find_map(FactStep::own_location)
     }
 }

@@ -1,9 +1,10 @@
 //! The failure itself, in one line: who failed, where, in the words of the assertion, and what its
 //! last call returned where that is why.
 
+use super::fact::own_location;
 use super::failure::FailureAt;
 use super::{Context, visible};
-use crate::run::names::SourceLocation;
+use crate::run::sidecar::SourceLocation;
 
 /// How a test failed, in words.
 #[derive(Debug)]
@@ -22,9 +23,9 @@ pub(crate) struct Failed {
 }
 
 impl Failed {
-    /// Where it is in the sources.
-    pub(crate) fn location(&self) -> Option<&SourceLocation> {
-        self.location.as_ref()
+    /// Where it is in the user's sources.
+    pub(crate) fn own_location(&self) -> Option<&SourceLocation> {
+        own_location(self.location.as_ref(), None)
     }
 
     /// Returns how the test failed, if it did.

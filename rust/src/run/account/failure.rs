@@ -4,9 +4,9 @@
 use super::history::History;
 use super::visible;
 use crate::run::journal::{Run, RunEntry};
-use crate::run::names::{Names, Panic, SourceLocation};
+use crate::run::operation::Operation;
 use crate::run::reply::Reply;
-use crate::run::word::Word;
+use crate::run::sidecar::{Panic, Sidecar, SourceLocation};
 
 /// A panic of a thread or task, or the error that the test returned.
 #[derive(Clone, Copy, Debug, PartialEq, Eq)]
@@ -24,7 +24,7 @@ pub(super) struct FailureAt {
 
 impl FailureAt {
     /// Returns its text: of a panic or an error.
-    pub(super) fn text<'a>(&self, names: &'a Names) -> Option<&'a str> {
+    pub(super) fn text<'a>(&self, names: &'a Sidecar) -> Option<&'a str> {
         let text = match self.panic {
             Some(panic) => &names.ending.panics[panic].text,
             None => &names.ending.returned.as_ref()?.text,
@@ -52,7 +52,7 @@ struct LastCall {
 }
 
 impl Failure {
-    pub(super) fn of(run: &Run, names: &Names, history: &History) -> Failure {
+    pub(super) fn of(run: &Run, names: &Sidecar, history: &History) -> Failure {
         // What failed in the window has failed behind its lead.
         let place_of = |since| run.place_of_stamp(since).max(history.lead);
         let panics = names.ending.panics.iter().enumerate();
@@ -147,7 +147,7 @@ impl Failure {
 /// Returns the panic that ended the test: the one that unwound its recorder. Where that isn't
 /// known, it is the first one after which its actor made no other calls than drops, or else the
 /// last.
-fn end_of_panics(panics: &[FailureAt], names: &Names, history: &History) -> Option<usize> {
+fn end_of_panics(panics: &[FailureAt], names: &Sidecar, history: &History) -> Option<usize> {
     let known = names.ending.ended_by.filter(|by| *by < panics.len());
     let uncaught = || panics.iter().position(|at| is_last_of_actor(at, history));
     known
@@ -164,7 +164,7 @@ fn is_last_of_actor(at: &FailureAt, history: &History) -> bool {
 
 /// Returns the actor of a panic that had made no recorded call before it: it may have dropped a
 /// sender or a receiver since.
-fn actor_named(names: &Names, panic: &Panic) -> Option<u64> {
+fn actor_named(names: &Sidecar, panic: &Panic) -> Option<u64> {
     let who = panic.who.as_ref()?;
     let mut actors = names.actors.iter();
     let (actor, _) = actors.find(|(_, name)| *name == who)?;
@@ -172,7 +172,7 @@ fn actor_named(names: &Names, panic: &Panic) -> Option<u64> {
 }
 
 /// Returns the actor that is the test's own thread.
-fn actor_of_test(names: &Names) -> Option<u64> {
+fn actor_of_test(names: &Sidecar) -> Option<u64> {
     let thread = &names.ending.test.as_ref()?.thread;
     let mut actors = names.actors.iter();
     let (actor, _) = actors.find(|(_, name)| *name == thread)?;
@@ -180,12 +180,12 @@ fn actor_of_test(names: &Names) -> Option<u64> {
 }
 
 /// Returns the last call that an actor made before it failed.
-fn last_call(run: &Run, names: &Names, history: &History, end: &FailureAt) -> Option<LastCall> {
+fn last_call(run: &Run, names: &Sidecar, history: &History, end: &FailureAt) -> Option<LastCall> {
     let actor = end.actor?;
     let places = (history.lead + 1..=end.place).rev();
     let mut calls = places.map(|place| (place, run.entry(place)));
-    let (place, entry) =
-        calls.find(|(_, entry)| u64::from(entry.actor) == actor && entry.word != Word::Drop)?;
+    let (place, entry) = calls
+        .find(|(_, entry)| u64::from(entry.actor) == actor && entry.word != Operation::Drop)?;
     let text = end.text(names);
     let is_in_text = text.is_some_and(|text| is_named_by(text, &entry));
     let is_named = is_in_text || is_on_line(names, history, (place, &entry), end);
@@ -214,7 +214,7 @@ pub(super) fn is_refused(entry: &RunEntry) -> bool {
 
 /// Whether a call is on the line that failed.
 fn is_on_line(
-    names: &Names,
+    names: &Sidecar,
     history: &History,
     (place, entry): (u64, &RunEntry),
     end: &FailureAt,

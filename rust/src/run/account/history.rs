@@ -2,9 +2,9 @@
 //! once. What a window's lead has is none of what anybody did.
 
 use crate::run::journal::{Run, RunEntry};
-use crate::run::names::Names;
+use crate::run::operation::{CallSet, Kind, Operation};
 use crate::run::reply::Reply;
-use crate::run::word::{CallSet, Kind, Word};
+use crate::run::sidecar::Sidecar;
 
 /// A handle of a channel.
 pub(super) struct HandleHistory {
@@ -78,7 +78,7 @@ pub(super) struct History {
 
 impl History {
     /// Passes over the entries of a run. The names say which calls are those of `wait_for`.
-    pub(super) fn of(run: &Run, names: &Names) -> History {
+    pub(super) fn of(run: &Run, names: &Sidecar) -> History {
         let mut history = History {
             lead: names.lead(),
             channels: run.specs().iter().map(|_| ChannelHistory::new()).collect(),
@@ -88,7 +88,7 @@ impl History {
         let mut counts = vec![0; run.specs().len()];
         for (place, mut entry) in run.entries() {
             let count = &mut counts[entry.channel as usize];
-            if entry.word == Word::Update && names.matching.is_waited(entry.channel, *count) {
+            if entry.word == Operation::Update && names.matching.is_waited(entry.channel, *count) {
                 entry.word = entry.word.marked();
             }
             history.indexes.push(*count);
@@ -118,7 +118,7 @@ impl History {
         }
         channel.note(place, entry);
         let receives = channel.is_receive(entry);
-        let sends = channel.is_sender(entry.handle) && entry.word != Word::Drop;
+        let sends = channel.is_sender(entry.handle) && entry.word != Operation::Drop;
         let number = entry.actor as usize;
         if self.actors.len() <= number {
             self.actors.resize(number + 1, ActorHistory::default());
@@ -184,7 +184,7 @@ impl History {
 
 impl ActorHistory {
     fn note(&mut self, place: u64, entry: &RunEntry, receives: bool, sends: bool) {
-        if entry.word != Word::Drop {
+        if entry.word != Operation::Drop {
             self.last_call = place;
         }
         if matches!(entry.reply, Reply::Lagged(_)) {
@@ -220,8 +220,8 @@ impl HandleHistory {
     /// Notes that a receiver of a watch learned of the current change, if it did.
     fn note_learned(&mut self, entry: &RunEntry, changes: u64) {
         let has_learned = match entry.reply {
-            Reply::Value(_) | Reply::Done => entry.word != Word::MarkChanged,
-            Reply::Flag(flag) => entry.word == Word::HasChanged && flag != 0,
+            Reply::Value(_) | Reply::Done => entry.word != Operation::MarkChanged,
+            Reply::Flag(flag) => entry.word == Operation::HasChanged && flag != 0,
             _ => false,
         };
         if has_learned && self.learned_of < changes {
@@ -256,12 +256,9 @@ impl ChannelHistory {
             Reply::New(_) => {
                 let kind = entry.word.makes();
                 let is_receiver = kind == Some(Kind::Receiver);
-                // A clone has learned of what its original has.
-                let learned_of = match (entry.word, self.handle(entry.handle)) {
-                    (Word::CloneReceiver, Some(original)) => original.learned_of,
-                    _ => self.changes,
-                };
-                let mut handle = HandleHistory::new(is_receiver, place, learned_of);
+                // What was changed before it didn't come to it, also where it's a clone that may
+                // still look at it.
+                let mut handle = HandleHistory::new(is_receiver, place, self.changes);
                 handle.is_weak = kind == Some(Kind::WeakSender);
                 self.handles.push(handle);
             }
@@ -288,7 +285,7 @@ impl ChannelHistory {
         let is_receive = self.is_receive(entry);
         let changes = self.changes;
         if let Some(handle) = self.handles.get_mut(entry.handle as usize) {
-            let is_drop = entry.word == Word::Drop;
+            let is_drop = entry.word == Operation::Drop;
             handle.last_use = if is_drop { handle.last_use } else { place };
             handle.note_learned(entry, changes);
             if is_receive {

@@ -4,7 +4,7 @@ use super::rest::KindCount;
 use super::window::WindowSaid;
 use super::{Account, Fact, FactStep, Failed, PendingTask, Rest, WaitAtEnd};
 use crate::run::journal::{Loss, LossEnd};
-use crate::run::names::{Json, SourceLocation, push_string};
+use crate::run::sidecar::{Json, SourceLocation, push_string};
 use std::fmt::Write;
 
 /// The version of the form.

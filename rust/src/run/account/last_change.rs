@@ -5,9 +5,9 @@ use super::fact::{FactStep, Role};
 use super::silence::last_sent;
 use super::{Context, visible};
 use crate::run::journal::Spec;
-use crate::run::names::WaitingCall;
+use crate::run::operation::Operation;
 use crate::run::reply::Reply;
-use crate::run::word::Word;
+use crate::run::sidecar::WaitingCall;
 
 /// Returns them as steps, up to a place, of what came while the receiver of a call was there.
 pub(super) fn steps(context: &Context<'_>, call: &WaitingCall, until: u64) -> Vec<FactStep> {
@@ -40,7 +40,7 @@ fn told_nobody(context: &Context<'_>, channel: u32, (after, until): (u64, u64)) 
     let mut places = (after + 1..=until).rev();
     places.find(|place| {
         let entry = context.run.entry(*place);
-        let is_modify = entry.word == Word::Modify && entry.reply == Reply::Told(0);
+        let is_modify = entry.word == Operation::Modify && entry.reply == Reply::Told(0);
         entry.channel == channel && is_modify
     })
 }

@@ -14,17 +14,18 @@ pub(super) use pending::all as pending;
 use super::history::History;
 use super::{Context, visible};
 use crate::run::journal::{Run, RunEntry};
-use crate::run::names::{Names, SeenPoll, SeenTask, TasksSeen, WaitingCall};
+use crate::run::numbered::{NumberMap, NumberSet};
 use crate::run::reply::Reply;
+use crate::run::sidecar::{SeenPoll, SeenTask, Sidecar, TasksSeen, WaitingCall};
+use crate::run::sorting::sort_by_key;
 use std::cell::RefCell;
-use std::collections::{BTreeMap, BTreeSet};
 use stretches::{Stretch, TaskDoing};
 use texts::LateTexts;
 
 /// How many lines a fact has at most.
 const MOST_LINES: usize = 3;
 
-/// A part of the time that is less than one in so many isn't told beside others.
+/// A part of the time that is less than one in this number isn't told beside others.
 const LEAST_PART: u64 = 10;
 
 /// How many tasks that could end a wait are named.
@@ -34,7 +35,8 @@ const MOST_SENDERS: usize = 2;
 pub(super) struct Lateness<'a> {
     seen: Option<&'a TasksSeen>,
     // Where each handle's calls were made, as indexes into the locations.
-    calls: BTreeMap<(u32, u32), BTreeSet<usize>>,
+    calls: NumberMap<(u32, u32), NumberSet<usize>>,
+    skipped: SkippedChanges,
     // The stamps between which something was told of tasks.
     spans: RefCell<Vec<(u64, u64)>>,
 }
@@ -59,28 +61,37 @@ pub(super) struct Late {
 }
 
 impl<'a> Lateness<'a> {
-    pub(super) fn of(run: &Run, names: &'a Names, history: &History) -> Lateness<'a> {
+    pub(super) fn of(run: &Run, names: &'a Sidecar, history: &History) -> Lateness<'a> {
         let seen = names.tasks_seen.as_ref();
-        let mut calls: BTreeMap<_, BTreeSet<usize>> = BTreeMap::new();
+        let mut calls: NumberMap<_, NumberSet<usize>> = NumberMap::new();
+        let mut skipped = SkippedChanges::default();
         for (place, entry) in run.entries().filter(|_| seen.is_some()) {
+            skipped.note(place, &entry);
             let of_channel = names.calls.get(&entry.channel.into());
             let at = of_channel.and_then(|it| it.get(history.index_on_channel(place)));
             if let Some(at) = at.copied().flatten() {
                 let key = (entry.channel, entry.handle);
-                calls.entry(key).or_default().insert(at);
+                calls.get_or_default(key).insert(at);
             }
         }
         for call in names.waiting.iter().chain(&names.dropped_waits) {
             if let Some(at) = call.location.filter(|_| seen.is_some()) {
                 let key = (call.channel as u32, call.handle as u32);
-                calls.entry(key).or_default().insert(at);
+                calls.get_or_default(key).insert(at);
             }
         }
         Lateness {
             seen,
             calls,
+            skipped,
             spans: RefCell::default(),
         }
+    }
+
+    /// Returns the changes that were replaced before a receiver looked, the last such ones, and the
+    /// place of its call before them, or 0.
+    pub(super) fn skipped(&self, channel: u32, receiver: u32) -> Option<SkippedSpan> {
+        self.skipped.last.get(&(channel, receiver)).copied()
     }
 
     /// Returns the stamps between which something was told of tasks.
@@ -90,6 +101,48 @@ impl<'a> Lateness<'a> {
 
     fn note(&self, from: u64, to: u64) {
         self.spans.borrow_mut().push((from, to));
+    }
+}
+
+/// Changes between two calls of a receiver. All but the last were replaced before it looked.
+#[derive(Clone, Copy)]
+pub(super) struct SkippedSpan {
+    /// The place of the call before them, or 0.
+    pub(super) before: u64,
+    /// The places of the first and the last of them.
+    pub(super) first: u64,
+    pub(super) last: u64,
+}
+
+/// Which changes each receiver skipped last.
+#[derive(Default)]
+struct SkippedChanges {
+    // The places of the changes, by channel.
+    sent: NumberMap<u32, Vec<u64>>,
+    // The place of the last call of each handle.
+    used: NumberMap<(u32, u32), u64>,
+    last: NumberMap<(u32, u32), SkippedSpan>,
+}
+
+impl SkippedChanges {
+    /// Notes an entry. They come in their order.
+    fn note(&mut self, place: u64, entry: &RunEntry) {
+        let sent = self.sent.get_or_default(entry.channel);
+        if is_sent(entry) {
+            sent.push(place);
+            return;
+        }
+        let key = (entry.channel, entry.handle);
+        let before = self.used.insert(key, place).unwrap_or(0);
+        let since = sent.partition_point(|sent| *sent < before);
+        if let [first, .., last] = sent[since..] {
+            let skipped = SkippedSpan {
+                before,
+                first,
+                last,
+            };
+            self.last.insert(key, skipped);
+        }
     }
 }
 
@@ -111,17 +164,26 @@ fn poll_of(task: &SeenTask, stamp: u64) -> Option<usize> {
 }
 
 /// Returns the task that made one of the calls with these stamps as this actor, or that alone is
-/// this actor.
+/// this actor. Of tasks that are polled in each other's polls, it is the innermost.
 fn task_of(seen: &TasksSeen, actor: u64, stamps: &[u64]) -> Option<usize> {
     let of_actor = seen.tasks.iter().enumerate();
-    let mut of_actor = of_actor.filter(|(_, task)| task.actor == Some(actor));
+    let of_actor = of_actor.filter(|(_, task)| task.actor == Some(actor));
     let has_made = |task: &SeenTask| stamps.iter().any(|stamp| poll_of(task, *stamp).is_some());
-    let all: Vec<_> = of_actor.by_ref().collect();
-    let caller = all.iter().find(|(_, task)| has_made(task));
-    match (caller, &all[..]) {
-        (Some((index, _)), _) | (None, [(index, _)]) => Some(*index),
+    let all: Vec<_> = of_actor.collect();
+    let mut callers = all.iter().filter(|(_, task)| has_made(task));
+    let first = callers.next().map(|(index, _)| *index);
+    let caller = first.map(|first| {
+        // The tasks are in the order in which they began, so those within come later.
+        callers.fold(first, |outer, (index, task)| match task.within {
+            Some(within) if within == outer => *index,
+            _ => outer,
+        })
+    });
+    let alone = match all[..] {
+        [(index, _)] => Some(index),
         _ => None,
-    }
+    };
+    caller.or(alone)
 }
 
 /// Says why a receiver was late, in the order of time.
@@ -185,7 +247,7 @@ impl Reasons<'_> {
             }
         }
         let mut told = self.worth_telling(stretches);
-        told.sort_by_key(|stretch| stretch.from);
+        sort_by_key(&mut told, |stretch| stretch.from);
         for stretch in &told {
             self.context.lateness.note(stretch.from, stretch.to);
         }
@@ -256,7 +318,7 @@ impl Reasons<'_> {
         let mut told: Vec<_> = stretches.into_iter().filter(is_told).collect();
         // Many short waits at one place are told as one.
         if told.len() > MOST_LINES * 16 {
-            told.sort_by_key(|stretch| std::cmp::Reverse(stretch.time));
+            sort_by_key(&mut told, |stretch| std::cmp::Reverse(stretch.time));
             told.truncate(MOST_LINES * 16);
         }
         told
@@ -402,9 +464,9 @@ pub(super) fn of_wait(context: &Context<'_>, call: &WaitingCall, at: u64) -> Vec
     let handles = history.handles().filter(|(_, handle)| {
         handle.is_receiver == waits_for_receivers && !handle.is_weak && handle.is_alive_at(at)
     });
-    let users: BTreeSet<_> = handles.map(|(_, handle)| handle.last_use).collect();
+    let users: NumberSet<_> = handles.map(|(_, handle)| handle.last_use).collect();
     let until = call.until.unwrap_or(u64::MAX);
-    let mut told = BTreeSet::new();
+    let mut told = NumberSet::new();
     let lines = users
         .into_iter()
         .filter(|place| *place > 0)

@@ -2,8 +2,8 @@
 
 use super::fact::{FactStep, Role};
 use super::{Context, visible};
-use crate::run::names::{HeldBy, WaitingCall};
 use crate::run::reply::Reply;
+use crate::run::sidecar::{HeldBy, WaitingCall};
 
 /// Says who holds the lock: a look, with where it was taken and by whom.
 pub(super) fn text(context: &Context<'_>, by: HeldBy) -> String {

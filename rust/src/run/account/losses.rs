@@ -9,9 +9,10 @@ use super::naming::Called;
 use super::traffic::LostValues;
 use super::{Context, visible};
 use crate::run::journal::{Loss, LossEnd, Spec};
-use crate::run::names::Json;
+use crate::run::numbered::{NumberMap, NumberSet};
+use crate::run::sidecar::Json;
+use crate::run::sorting::sort_by_key;
 use std::cmp::Reverse;
-use std::collections::{BTreeMap, BTreeSet};
 
 /// By what the losses of a receiver are ordered.
 #[derive(Clone, Copy, Debug, PartialEq, Eq, PartialOrd, Ord)]
@@ -88,12 +89,14 @@ impl ToldEnd {
 pub(super) fn found(context: &Context<'_>) -> Vec<Lost> {
     let told_last = context.failure.told_last(context.history);
     let waiting = context.names.waiting.iter();
-    let waiting: BTreeSet<_> = waiting.map(|call| (call.channel, call.handle)).collect();
-    let mut by_receiver: BTreeMap<_, Lost> = BTreeMap::new();
+    let waiting: NumberSet<(u32, u32)> = waiting
+        .filter_map(|call| Some((call.channel.try_into().ok()?, call.handle.try_into().ok()?)))
+        .collect();
+    let mut by_receiver: NumberMap<_, Lost> = NumberMap::new();
     for (index, windowed) in context.traffic.losses().iter().enumerate() {
         let loss = &windowed.loss;
         let key = (loss.channel, loss.receiver);
-        let is_waited_for = waiting.contains(&(key.0.into(), key.1.into()));
+        let is_waited_for = waiting.contains(&key);
         let rank = rank(context, &told_last, loss, is_waited_for);
         let one = Lost {
             count: loss.lost,
@@ -110,7 +113,9 @@ pub(super) fn found(context: &Context<'_>) -> Vec<Lost> {
     }
     let mut all: Vec<_> = by_receiver.into_values().collect();
     // The sort is stable: receivers that lost as many are in the order of channel and number.
-    all.sort_by_key(|lost| (lost.rank, Reverse(lost.count), lost.told.from));
+    sort_by_key(&mut all, |lost| {
+        (lost.rank, Reverse(lost.count), lost.told.from)
+    });
     all
 }
 

@@ -3,8 +3,8 @@
 
 use super::Context;
 use crate::run::journal::RunEntry;
+use crate::run::operation::{CallSet, Operation};
 use crate::run::reply::Reply;
-use crate::run::word::{CallSet, Word};
 
 /// What a receiver had seen.
 #[derive(Clone, Copy, Default)]
@@ -48,7 +48,7 @@ impl Marking {
             // original has.
             Reply::New(_) => {
                 let original = self.receivers.get(entry.handle as usize).copied();
-                let of_clone = original.filter(|_| entry.word == Word::CloneReceiver);
+                let of_clone = original.filter(|_| entry.word == Operation::CloneReceiver);
                 self.receivers.push(of_clone.unwrap_or(Seen {
                     marked: changes,
                     ..Seen::default()
@@ -86,8 +86,8 @@ impl Marking {
 }
 
 impl Seen {
-    fn note(&mut self, place: u64, word: Word, changes: usize) {
-        if word == Word::MarkChanged {
+    fn note(&mut self, place: u64, word: Operation, changes: usize) {
+        if word == Operation::MarkChanged {
             self.unmark = place;
         } else if word.is(CallSet::MARKS) {
             *self = Seen {
@@ -95,7 +95,7 @@ impl Seen {
                 mark: place,
                 ..Seen::default()
             };
-        } else if word == Word::Borrow && self.marked < changes && self.look == 0 {
+        } else if word == Operation::Borrow && self.marked < changes && self.look == 0 {
             self.look = place;
         }
     }

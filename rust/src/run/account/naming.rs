@@ -4,13 +4,13 @@
 use super::history::History;
 use super::visible;
 use crate::run::journal::{ChannelValue, RunEntry};
-use crate::run::names::{Names, SourceLocation};
+use crate::run::operation::Operation;
 use crate::run::reply::Reply;
-use crate::run::word::Word;
+use crate::run::sidecar::{Sidecar, SourceLocation};
 
 /// The names of a run.
 pub(super) struct Naming<'a> {
-    names: &'a Names,
+    names: &'a Sidecar,
     history: &'a History,
 }
 
@@ -35,7 +35,7 @@ impl Called {
 }
 
 impl<'a> Naming<'a> {
-    pub(super) fn new(names: &'a Names, history: &'a History) -> Naming<'a> {
+    pub(super) fn new(names: &'a Sidecar, history: &'a History) -> Naming<'a> {
         Naming { names, history }
     }
 
@@ -117,8 +117,13 @@ impl<'a> Naming<'a> {
     }
 
     fn created_at(&self, channel: u32, handle: u32) -> Option<String> {
+        self.made(channel, handle).map(visible::line_of)
+    }
+
+    /// Returns where a sender or a receiver was created.
+    pub(super) fn made(&self, channel: u32, handle: u32) -> Option<&SourceLocation> {
         let made = self.names.made.get(&channel.into())?;
-        self.location(*made.get(&handle.into())?)
+        self.source(*made.get(&handle.into())?)
     }
 
     /// Returns a value: its text in quotation marks, or `value 2`.
@@ -127,7 +132,7 @@ impl<'a> Naming<'a> {
             Some(text) => text,
             // The crate numbers the values of each channel from 0. Other journals have their own.
             None if self.names.ending.journal.is_some() => {
-                format!("its {} value", visible::nth(value + 1))
+                format!("its {} value", visible::nth(value.saturating_add(1)))
             }
             None => format!("value {value}"),
         }
@@ -169,7 +174,7 @@ impl<'a> Naming<'a> {
 
     /// Returns the word of the call that led to this place. Two calls that wait have the word of
     /// others in a journal.
-    pub(super) fn word(&self, place: u64, entry: &RunEntry) -> Word {
+    pub(super) fn word(&self, place: u64, entry: &RunEntry) -> Operation {
         let index = self.history.index_on_channel(place) as u32;
         if self.names.matching.is_waited(entry.channel, index) {
             entry.word.marked()

@@ -5,9 +5,9 @@ use super::fact::{Fact, FactStep, Role};
 use super::failure::FailureAt;
 use super::finding::orders;
 use super::{Context, visible};
-use crate::run::names::Json;
+use crate::run::operation::Operation;
 use crate::run::reply::Reply;
-use crate::run::word::Word;
+use crate::run::sidecar::Json;
 
 /// What the text of a failure has that came of a task or thread which panicked.
 const JOINED: [&str; 2] = ["JoinError::Panic(", "Any { .. }"];
@@ -95,7 +95,7 @@ fn closed(context: &Context<'_>) -> Option<ClosedBy> {
     let told = context.failure.last_call()?;
     let call = context.run.entry(told);
     let is_receiver = match call.reply {
-        Reply::Closed => call.word == Word::Closed,
+        Reply::Closed => call.word == Operation::Closed,
         Reply::NoReceivers(_) => true,
         _ => return None,
     };
@@ -177,6 +177,7 @@ fn panic_step(context: &Context<'_>, at: &FailureAt, who: String) -> FactStep {
         role: Role::Panic,
         actor: at.actor,
         location: location.cloned(),
+        made: None,
         time: None,
         cells: [
             "a panic".to_string(),

@@ -1,8 +1,8 @@
 //! How far the receivers of a broadcast had read at a place.
 
 use super::{Context, visible};
+use crate::run::operation::Operation;
 use crate::run::reply::Reply;
-use crate::run::word::Word;
 
 /// What a receiver had read.
 #[derive(Clone, Copy, Default)]
@@ -95,7 +95,7 @@ pub(super) fn skipped(
         return None;
     }
     let entry = context.run.entry(place);
-    if entry.word != Word::Resubscribe {
+    if entry.word != Operation::Resubscribe {
         return None;
     }
     let reading = ReadUpTo::of(context, channel, place - 1);

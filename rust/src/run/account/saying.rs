@@ -6,12 +6,12 @@ use super::history::History;
 use super::naming::Naming;
 use super::visible;
 use crate::run::journal::{Run, RunEntry, TextFault};
-use crate::run::names::{Names, SourceLocation};
 use crate::run::reply::Reply;
+use crate::run::sidecar::{Sidecar, SourceLocation};
 
 /// What a run's things are called. It doesn't keep the run itself, which a debugger has.
 pub(crate) struct Saying {
-    names: Names,
+    names: Sidecar,
     history: History,
 }
 
@@ -21,14 +21,14 @@ impl Saying {
     /// # Errors
     ///
     /// Returns `NoMemory` if there is none for what is found.
-    pub(crate) fn of(run: &Run, names: Names) -> Result<(Saying, Account), TextFault> {
+    pub(crate) fn of(run: &Run, names: Sidecar) -> Result<(Saying, Account), TextFault> {
         let findings = run.findings()?;
         let history = History::of(run, &names);
         let account = Account::with(run, &names, &findings, &history)?;
         Ok((Saying { names, history }, account))
     }
 
-    pub(crate) fn names(&self) -> &Names {
+    pub(crate) fn names(&self) -> &Sidecar {
         &self.names
     }
 

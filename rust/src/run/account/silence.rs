@@ -9,8 +9,9 @@ use super::history::Unreached;
 use super::nothing_came::NothingCame;
 use super::reading::last_drop;
 use super::{Context, last_change, lateness, locked, value, visible, waits};
-use crate::run::names::{Json, WaitingCall};
 use crate::run::reply::Reply;
+use crate::run::sidecar::{Json, WaitingCall};
+use crate::run::sorting::sort_by;
 
 /// How many of the senders that could end a wait are named.
 const NAMED: usize = 3;
@@ -121,7 +122,7 @@ fn waits_of_failure(context: &Context<'_>) -> impl Iterator<Item = Silence> {
     let calls = calls.enumerate();
     let calls = calls.filter(|(_, call)| is_why && call.channel < channels);
     let mut calls: Vec<_> = calls.map(|(index, call)| (call.since, index)).collect();
-    calls.sort_unstable();
+    sort_by(&mut calls, |one, other| one.cmp(other));
     calls.into_iter().map(|(_, index)| Silence::Waits(index))
 }
 
@@ -211,6 +212,7 @@ fn waited(context: &Context<'_>, call: &WaitingCall) -> Fact {
         role: Role::Begin,
         actor: Some(call.actor),
         location: location.cloned(),
+        made: naming.made(channel, handle).cloned(),
         time: None,
         cells: [
             context.since(since),

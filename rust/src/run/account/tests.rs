@@ -1,7 +1,7 @@
 //! The order of the account, and what isn't told, for small runs that are worked by hand.
 
 use super::{Account, Level};
-use crate::run::names::Names;
+use crate::run::sidecar::Sidecar;
 
 /// Returns the account of a run: its channels, its entries with the stamps 1, 2, 3, .., and the
 /// names beside it.
@@ -10,7 +10,7 @@ pub(super) fn account(channels: &[&str], entries: &[&str], names: &str) -> Accou
     for (entry, stamp) in entries.iter().zip(1..) {
         text += &format!("{stamp} {entry}\n");
     }
-    let names = Names::read(names).unwrap();
+    let names = Sidecar::read(names).unwrap();
     Account::read((text + "end\n").as_bytes(), &names).unwrap()
 }
 

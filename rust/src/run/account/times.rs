@@ -1,7 +1,7 @@
 //! When calls were made, in words: by the clock of UTC, and how long before the dump.
 
 use crate::run::clock::{Moment, date};
-use crate::run::names::Names;
+use crate::run::sidecar::Sidecar;
 
 const MILLISECONDS_OF_DAY: u64 = 86_400_000;
 
@@ -31,7 +31,7 @@ pub(crate) struct CallTime {
 
 impl<'a> WindowTimes<'a> {
     /// Without a window no times are told.
-    pub(super) fn of(names: &'a Names) -> WindowTimes<'a> {
+    pub(super) fn of(names: &'a Sidecar) -> WindowTimes<'a> {
         let known = if names.window.is_some() {
             &names.times[..]
         } else {
@@ -63,7 +63,7 @@ impl<'a> WindowTimes<'a> {
     }
 }
 
-/// Returns the number that is so many parts of the way from the first to the second one.
+/// Returns the number that is `part` of `whole` parts of the way from `from` to `to`.
 fn between(from: u64, to: u64, (part, whole): (u64, u64)) -> u64 {
     if whole == 0 {
         return from;
@@ -117,7 +117,7 @@ pub(super) fn utc(wall: u64) -> String {
     format!("{date} {clock}")
 }
 
-/// Returns the date and the time of day in UTC at so many milliseconds since the epoch.
+/// Returns the date and the time of day in UTC at `wall` milliseconds since the epoch.
 fn date_and_clock(wall: u64) -> (String, String) {
     let (days, time) = (wall / MILLISECONDS_OF_DAY, wall % MILLISECONDS_OF_DAY);
     let (year, month, day) = date(days);
@@ -135,7 +135,7 @@ fn date_and_clock(wall: u64) -> (String, String) {
 #[cfg(test)]
 mod tests {
     use super::*;
-    use crate::run::names::WindowNames;
+    use crate::run::sidecar::WindowNames;
 
     #[test]
     fn a_time_is_that_of_the_calendar() {
@@ -169,16 +169,16 @@ mod tests {
         }
     }
 
-    fn names(times: &[[u64; 3]]) -> Names {
+    fn names(times: &[[u64; 3]]) -> Sidecar {
         let time = |[stamp, wall, since_start]: [u64; 3]| Moment {
             stamp,
             wall,
             since_start,
         };
-        Names {
+        Sidecar {
             window: Some(WindowNames::default()),
             times: times.iter().copied().map(time).collect(),
-            ..Names::default()
+            ..Sidecar::default()
         }
     }
 
@@ -219,7 +219,7 @@ mod tests {
         let times = WindowTimes::of(&names);
         let text = times.at(10).unwrap().text();
         assert_eq!(text, "at 2026-11-28 23:59:59.000 UTC, 2 s before the dump");
-        let alone = Names {
+        let alone = Sidecar {
             window: None,
             ..names
         };

@@ -5,7 +5,7 @@ use crate::run::journal::{
     self, ChannelValue, Counts, Findings, FoundTraffic, Loss, LossEnd, Run, TextFault,
     values_between, values_by,
 };
-use crate::run::names::{ChannelWindow, Names};
+use crate::run::sidecar::{ChannelWindow, Sidecar};
 
 /// The values of a channel, and the lives of its handles.
 pub(super) struct ChannelTraffic {
@@ -19,7 +19,7 @@ pub(super) struct ChannelTraffic {
 
 /// How many values, or changes of a watch, came to a handle.
 #[derive(Clone, Copy, Default)]
-pub(super) struct Came {
+pub(super) struct Delivered {
     pub(super) count: u64,
     /// Whether these are all that the channel was sent, of which some may have come before the
     /// handle.
@@ -56,7 +56,7 @@ impl Traffic {
     /// Keeps what came on each channel of which there is something to tell.
     pub(super) fn of(
         run: &Run,
-        names: &Names,
+        names: &Sidecar,
         findings: &Findings,
         found: FoundTraffic,
     ) -> Traffic {
@@ -189,18 +189,18 @@ impl ChannelTraffic {
 
     /// How many values came while a handle was there. Of one that was there before the window, it
     /// is how many the channel was sent, and of a watch how many came in the window.
-    pub(super) fn came_to(&self, handle: u32) -> Came {
+    pub(super) fn came_to(&self, handle: u32) -> Delivered {
         let Some((made, end)) = self.span(handle) else {
-            return Came::default();
+            return Delivered::default();
         };
         if !self.is_older(handle) {
-            return Came {
+            return Delivered {
                 count: self.came_between(made, end),
                 is_most: false,
             };
         }
         let before = self.window.as_ref().and_then(|window| window.sent);
-        Came {
+        Delivered {
             count: before.unwrap_or(0) + self.came_between(self.lead, end.max(self.lead)),
             is_most: before.is_some(),
         }

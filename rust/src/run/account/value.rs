@@ -8,9 +8,9 @@ use super::reading::{self, ReadUpTo};
 use super::silence::last_sent;
 use super::{Context, visible};
 use crate::run::journal::{RunEntry, Spec};
-use crate::run::names::Json;
+use crate::run::operation::Operation;
 use crate::run::reply::Reply;
-use crate::run::word::Word;
+use crate::run::sidecar::Json;
 
 /// What is said of the last value of a watch.
 const UNCHANGED: &str = ": it was not changed since";
@@ -134,7 +134,7 @@ fn why_of_watch(context: &Context<'_>, place: u64, entry: &RunEntry, sent: Optio
 fn told_again(context: &Context<'_>, place: u64, entry: &RunEntry) -> Option<(u64, u64)> {
     let until = Marking::of(context, entry.channel, place - 1);
     let changed = until.seen(entry.handle).mark;
-    if changed <= context.history.lead || context.run.entry(changed).word != Word::Changed {
+    if changed <= context.history.lead || context.run.entry(changed).word != Operation::Changed {
         return None;
     }
     let before = Marking::of(context, entry.channel, changed - 1);

@@ -1,6 +1,6 @@
 //! Texts of a program's own, as a line of the account has them: on one line, and not too long.
 
-use crate::run::names::SourceLocation;
+use crate::run::sidecar::SourceLocation;
 use std::fmt::Write;
 
 /// How many characters of a text are shown.

@@ -1,10 +1,11 @@
 //! The calls that still wait.
 
+use super::fact::own_location;
 use super::finding::Finding;
 use super::silence::Silence;
 use super::window::BEFORE;
 use super::{Context, last_change, visible};
-use crate::run::names::{HeldBy, SourceLocation, WaitingCall};
+use crate::run::sidecar::{HeldBy, SourceLocation, WaitingCall};
 
 /// A call that waits.
 #[derive(Debug)]
@@ -16,6 +17,8 @@ pub(crate) struct WaitAtEnd {
     /// How many calls had been made when it began to wait.
     pub(super) since: u64,
     pub(super) location: Option<SourceLocation>,
+    // Where the sender or receiver that it is a call of was created.
+    made: Option<SourceLocation>,
     /// Whether a fact that is told in full tells of it.
     pub(crate) is_told: bool,
     /// Who waits, in which call, since when and where.
@@ -23,9 +26,9 @@ pub(crate) struct WaitAtEnd {
 }
 
 impl WaitAtEnd {
-    /// Where it waits in the sources.
-    pub(crate) fn location(&self) -> Option<&SourceLocation> {
-        self.location.as_ref()
+    /// Where it waits in the user's sources.
+    pub(crate) fn own_location(&self) -> Option<&SourceLocation> {
+        own_location(self.location.as_ref(), self.made.as_ref())
     }
 }
 
@@ -66,6 +69,10 @@ fn wait(context: &Context<'_>, call: &WaitingCall) -> WaitAtEnd {
         call: call.call.clone(),
         since,
         location: location.cloned(),
+        made: context
+            .naming
+            .made(call.channel as u32, call.handle as u32)
+            .cloned(),
         is_told: false,
         text: text(context, call, since, location),
     }

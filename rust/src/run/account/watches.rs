@@ -10,7 +10,8 @@ use super::history::HandleHistory;
 use super::lateness::{self, Late};
 use super::{Context, visible};
 use crate::run::journal::{Counts, Totals};
-use crate::run::names::Json;
+use crate::run::sidecar::Json;
+use crate::run::sorting::sort_by_key;
 use std::cmp::Reverse;
 
 /// What a receiver never did with some of the changes that came to it.
@@ -64,10 +65,10 @@ pub(super) fn found(context: &Context<'_>) -> Vec<Overlooked> {
     let learned = totals().filter_map(|totals| unlearned(context, totals));
     let mut learned: Vec<_> = learned.collect();
     // The sorts are stable: others are in the order of channel and number.
-    learned.sort_by_key(|it| (it.use_of_it, Reverse(it.count)));
+    sort_by_key(&mut learned, |it| (it.use_of_it, Reverse(it.count)));
     let marked = totals().filter_map(|totals| unmarked(context, totals));
     let mut marked: Vec<_> = marked.collect();
-    marked.sort_by_key(|it| Reverse(it.count));
+    sort_by_key(&mut marked, |it| Reverse(it.count));
     learned.into_iter().chain(marked).collect()
 }
 
@@ -170,7 +171,7 @@ pub(super) fn fact(context: &Context<'_>, overlooked: &Overlooked) -> Fact {
     };
     let steps = steps(context, overlooked);
     let mut sights: Vec<_> = (0..steps.len()).collect();
-    sights.sort_by_key(|index| steps[*index].role != Role::Change);
+    sort_by_key(&mut sights, |index| steps[*index].role != Role::Change);
     Fact {
         order: overlooked.order(),
         kind,
@@ -190,7 +191,8 @@ pub(super) fn fact(context: &Context<'_>, overlooked: &Overlooked) -> Fact {
     }
 }
 
-/// Says why a receiver hadn't learned of the last change when that came.
+/// Says why a receiver hadn't learned of the last change when that came, or where it did, why it
+/// looked only after the one before it was replaced.
 fn late(context: &Context<'_>, overlooked: &Overlooked) -> Vec<String> {
     let Overlooked {
         channel,
@@ -202,18 +204,26 @@ fn late(context: &Context<'_>, overlooked: &Overlooked) -> Vec<String> {
     let change = change.map_or(0, |value| value.since);
     let user = context.history.channel(channel).handle(receiver);
     let user = user.and_then(|handle| handle.last_user);
-    let is_known = change > look && change > context.history.lead;
-    let Some(user) = user.filter(|_| is_known && overlooked.what == Unreceived::Learned) else {
+    let Some(user) = user.filter(|_| overlooked.what == Unreceived::Learned) else {
         return vec![];
     };
+    let skipped = context.lateness.skipped(channel, receiver);
+    let (received, since, sent) = match skipped {
+        _ if change > look => (look, change, change),
+        Some(skipped) => (skipped.before, skipped.first, skipped.last),
+        None => return vec![],
+    };
+    if since <= context.history.lead {
+        return vec![];
+    }
     let late = Late {
         channel,
         receiver,
         actor: user.into(),
-        received: look,
+        received,
         told: 0,
-        since: change,
-        sent: change,
+        since,
+        sent,
         retained: 1,
     };
     lateness::lines(context, &late)
@@ -228,7 +238,7 @@ fn steps(context: &Context<'_>, overlooked: &Overlooked) -> Vec<FactStep> {
     let known = change.into_iter().chain([(overlooked.look, Role::Look)]);
     let lead = context.history.lead;
     let mut known: Vec<_> = known.filter(|(place, _)| *place > lead).collect();
-    known.sort_by_key(|(place, _)| *place);
+    sort_by_key(&mut known, |(place, _)| *place);
     let steps = known.into_iter();
     steps
         .map(|(place, role)| step(context, place, role))

@@ -2,7 +2,9 @@
 
 use super::times::utc;
 use super::visible;
-use crate::run::names::{Names, WindowNames};
+use crate::run::clock::FLIGHT_START;
+use crate::run::journal::Run;
+use crate::run::sidecar::{Sidecar, WindowNames};
 
 /// What a call is called that was made before the window, of which its journal has no place.
 pub(super) const BEFORE: &str = "before the window";
@@ -12,18 +14,42 @@ pub(super) const BEFORE: &str = "before the window";
 pub(crate) struct WindowSaid {
     /// When and why it was written, and its calls by their numbers.
     pub(crate) text: String,
+    /// By which numbers a snapshot calls the same calls.
+    pub(crate) in_snapshots: Option<String>,
     pub(super) window: WindowNames,
 }
 
 impl WindowSaid {
-    /// Returns what is said of a run with so many entries, if it has a window.
-    pub(super) fn of(names: &Names, length: u64) -> Option<WindowSaid> {
+    /// Returns what is said of a run, if it has a window.
+    pub(super) fn of_run(names: &Sidecar, run: &Run) -> Option<WindowSaid> {
+        let said = WindowSaid::of(names, run.len())?;
+        let (first, last) = (said.window.lead + 1, run.len());
+        if first > last || run.entry(first).stamp <= FLIGHT_START {
+            return Some(said);
+        }
+        let stamps = [first, last].map(|place| run.entry(place).stamp);
+        let in_snapshots = format!(
+            "calls {first} to {last} are {} to {} in snapshots",
+            stamps[0], stamps[1]
+        );
+        Some(WindowSaid {
+            in_snapshots: Some(in_snapshots),
+            ..said
+        })
+    }
+
+    /// Returns what is said of a run with `length` entries, if it has a window.
+    fn of(names: &Sidecar, length: u64) -> Option<WindowSaid> {
         let window = names.window.clone()?;
         let at = window.at;
         let at = at.map_or(String::new(), |at| format!(" of {} UTC", utc(at)));
         let reason = visible::path(&window.reason);
         let text = format!("dump{at}: {reason}; {}", calls(window.lead, length));
-        Some(WindowSaid { text, window })
+        Some(WindowSaid {
+            text,
+            in_snapshots: None,
+            window,
+        })
     }
 }
 
@@ -67,11 +93,11 @@ mod tests {
             reason: "asked\nfor".to_string(),
             ..WindowNames::default()
         };
-        let mut names = Names {
+        let mut names = Sidecar {
             window: Some(window),
-            ..Names::default()
+            ..Sidecar::default()
         };
-        let text = |names: &Names| WindowSaid::of(names, 2).unwrap().text;
+        let text = |names: &Sidecar| WindowSaid::of(names, 2).unwrap().text;
         assert_eq!(text(&names), "dump: asked\\nfor; calls 1 to 2");
         names.window.as_mut().unwrap().at = Some(0);
         let wanted = "dump of 1970-01-01 00:00:00.000 UTC: asked\\nfor; calls 1 to 2";

@@ -3,8 +3,8 @@
 use crate::core::source::rw_recording::{Entry as CoreEntry, World};
 use crate::core::source::rw_words::{ReplyWord, write_entry};
 use crate::run::journal;
+use crate::run::operation::Kind;
 use crate::run::reply::Reply;
-use crate::run::word::Kind;
 use std::fmt;
 
 /// A recorded call: who made it, on which channel, and what it returned. Its text is that of a

@@ -6,13 +6,14 @@
 use super::recorded::Recorded;
 use super::{Channel, Condition, NoCondition, Walk};
 use crate::run::account::visible;
-use std::collections::{BTreeMap, BTreeSet};
+use crate::run::numbered::{NumberMap, NumberSet};
+use std::collections::BTreeMap;
 use std::fmt;
 use std::str::FromStr;
 
 /// What a name stands for.
 #[derive(Clone, Copy, Debug, PartialEq, Eq)]
-pub enum Thing {
+pub enum Entity {
     /// A channel, by its number.
     Channel(u32),
     /// A receiver, by the number of its channel and its own.
@@ -23,7 +24,7 @@ pub enum Thing {
 
 /// What a condition is of, in words.
 #[derive(Clone, Copy, Debug, PartialEq, Eq)]
-pub enum Sort {
+pub enum ConditionSubject {
     /// An actor.
     Actor,
     /// A channel of either kind.
@@ -41,23 +42,23 @@ pub enum Sort {
 }
 
 /// The words of conditions, what each is of, and whether a number follows.
-const WORDS: [(&str, Sort, bool); 9] = [
-    ("actor", Sort::Actor, false),
-    ("channel", Sort::Channel, false),
-    ("reply", Sort::Reply, false),
-    ("unread", Sort::BroadcastReceiver, true),
-    ("lagging", Sort::BroadcastReceiver, false),
-    ("unseen", Sort::WatchReceiver, false),
-    ("version", Sort::Watch, true),
-    ("closed", Sort::Channel, false),
-    ("queue", Sort::Broadcast, true),
+const WORDS: [(&str, ConditionSubject, bool); 9] = [
+    ("actor", ConditionSubject::Actor, false),
+    ("channel", ConditionSubject::Channel, false),
+    ("reply", ConditionSubject::Reply, false),
+    ("unread", ConditionSubject::BroadcastReceiver, true),
+    ("lagging", ConditionSubject::BroadcastReceiver, false),
+    ("unseen", ConditionSubject::WatchReceiver, false),
+    ("version", ConditionSubject::Watch, true),
+    ("closed", ConditionSubject::Channel, false),
+    ("queue", ConditionSubject::Broadcast, true),
 ];
 
 /// A condition in which names may stand for numbers. It is read without a run.
 #[derive(Clone, Debug, PartialEq, Eq)]
 pub struct NamedCondition {
     pub(crate) word: &'static str,
-    pub(crate) sort: Sort,
+    pub(crate) sort: ConditionSubject,
     /// A name, or the numbers of a channel, a receiver or an actor, or the word of a reply.
     pub(crate) name: String,
     pub(crate) count: Option<u64>,
@@ -68,16 +69,16 @@ const NO_NUMBER: u64 = u64::MAX;
 
 /// The things of a run, with their names.
 #[derive(Default)]
-pub struct Things {
+pub struct Entities {
     channels: Vec<(String, bool)>,
-    receivers: BTreeMap<(u32, u32), String>,
+    receivers: NumberMap<(u32, u32), String>,
     /// The numbers of receivers in their channels, where these differ from those in the journal.
-    numbers: BTreeMap<(u32, u32), u64>,
-    actors: BTreeMap<u32, String>,
+    numbers: NumberMap<(u32, u32), u64>,
+    actors: NumberMap<u32, String>,
     /// The only actor that made calls by each receiver without a name of its own, as far as that is
     /// known.
-    users: BTreeMap<(u32, u32), String>,
-    by_name: BTreeMap<String, Thing>,
+    users: NumberMap<(u32, u32), String>,
+    by_name: BTreeMap<String, Entity>,
 }
 
 impl FromStr for NamedCondition {
@@ -96,7 +97,7 @@ impl FromStr for NamedCondition {
         };
         let name = name.trim_matches('`');
         let is_reply = || Condition::reply(name).is_some();
-        if name.is_empty() || sort == Sort::Reply && !is_reply() {
+        if name.is_empty() || sort == ConditionSubject::Reply && !is_reply() {
             Err(NoCondition)
         } else {
             Ok(NamedCondition {
@@ -112,13 +113,13 @@ impl FromStr for NamedCondition {
 impl NamedCondition {
     /// Returns the condition by the numbers of a run. Returns `None` if its name is none there.
     /// Numbers are taken as they are.
-    pub fn by_numbers(&self, things: &Things) -> Option<Condition> {
-        if self.sort == Sort::Reply {
+    pub fn by_numbers(&self, things: &Entities) -> Option<Condition> {
+        if self.sort == ConditionSubject::Reply {
             return Condition::reply(&self.name);
         }
         let numbers = match things.named_of(self.sort, &self.name) {
-            Some(Thing::Receiver(channel, handle)) => format!("{channel} {handle}"),
-            Some(Thing::Channel(number) | Thing::Actor(number)) => number.to_string(),
+            Some(Entity::Receiver(channel, handle)) => format!("{channel} {handle}"),
+            Some(Entity::Channel(number) | Entity::Actor(number)) => number.to_string(),
             None => self.name.clone(),
         };
         let count = self.count.map(|count| format!(" {count}"));
@@ -127,8 +128,8 @@ impl NamedCondition {
     }
 
     /// Whether the run has what the condition is of.
-    pub fn is_of(&self, things: &Things) -> bool {
-        self.sort == Sort::Reply || things.has(self.sort, &self.name)
+    pub fn is_of(&self, things: &Entities) -> bool {
+        self.sort == ConditionSubject::Reply || things.has(self.sort, &self.name)
     }
 }
 
@@ -139,44 +140,46 @@ impl fmt::Display for NamedCondition {
     }
 }
 
-impl Sort {
+impl ConditionSubject {
     /// Whether it is of channels of this kind. There may be no such channel.
     fn is_of_channel(self, is_watch: Option<bool>) -> bool {
         match self {
-            Sort::Actor | Sort::Reply => false,
-            Sort::Channel => is_watch.is_some(),
-            Sort::Broadcast | Sort::BroadcastReceiver => is_watch == Some(false),
-            Sort::Watch | Sort::WatchReceiver => is_watch == Some(true),
+            ConditionSubject::Actor | ConditionSubject::Reply => false,
+            ConditionSubject::Channel => is_watch.is_some(),
+            ConditionSubject::Broadcast | ConditionSubject::BroadcastReceiver => {
+                is_watch == Some(false)
+            }
+            ConditionSubject::Watch | ConditionSubject::WatchReceiver => is_watch == Some(true),
         }
     }
 
     /// Returns what it is called, where there are several.
     pub fn plural(self) -> &'static str {
         match self {
-            Sort::Actor => "actors",
-            Sort::Channel => "channels",
-            Sort::Broadcast => "broadcast channels",
-            Sort::Watch => "watch channels",
-            Sort::BroadcastReceiver => "receivers of a broadcast",
-            Sort::WatchReceiver => "receivers of a watch",
-            Sort::Reply => "replies",
+            ConditionSubject::Actor => "actors",
+            ConditionSubject::Channel => "channels",
+            ConditionSubject::Broadcast => "broadcast channels",
+            ConditionSubject::Watch => "watch channels",
+            ConditionSubject::BroadcastReceiver => "receivers of a broadcast",
+            ConditionSubject::WatchReceiver => "receivers of a watch",
+            ConditionSubject::Reply => "replies",
         }
     }
 }
 
-impl Things {
+impl Entities {
     /// Names the things of a run: its channels, and these receivers and actors.
     pub fn of(
         walk: &Walk,
         names: &Recorded,
         receivers: impl IntoIterator<Item = (u32, u32)>,
         actors: impl IntoIterator<Item = u32>,
-    ) -> Things {
+    ) -> Entities {
         let is_watch = |channel| matches!(walk.channel(channel), Some(Channel::Watch(_)));
         let channel = |channel| (names.channel(channel), is_watch(channel));
         let receiver = |(channel, handle)| ((channel, handle), names.receiver(channel, handle));
         let actors = actors.into_iter();
-        let mut things = Things::named(
+        let mut things = Entities::named(
             (0..walk.channels()).map(channel).collect(),
             receivers.into_iter().map(receiver).collect(),
             actors.map(|it| (it, names.actor(it))).collect(),
@@ -191,18 +194,19 @@ impl Things {
     }
 
     /// Finds the things of a run, and names them.
-    pub(crate) fn found_in(walk: &Walk, names: &Recorded) -> Things {
-        let mut receivers: BTreeSet<_> = (0..walk.channels()).map(|channel| (channel, 1)).collect();
-        let mut actors = BTreeSet::new();
-        let mut users = BTreeMap::new();
+    pub(crate) fn found_in(walk: &Walk, names: &Recorded) -> Entities {
+        let mut receivers: NumberSet<_> =
+            (0..walk.channels()).map(|channel| (channel, 1)).collect();
+        let mut actors = NumberSet::new();
+        let mut users = NumberMap::new();
         for entry in (1..=walk.len()).filter_map(|place| walk.entry(place)) {
             actors.insert(entry.actor());
             receivers.extend(entry.new_receiver());
-            let user = users.entry((entry.channel(), entry.handle()));
-            let user = user.or_insert(Some(entry.actor()));
+            let handle = (entry.channel(), entry.handle());
+            let user = users.get_or_insert_with(handle, || Some(entry.actor()));
             *user = user.filter(|user| *user == entry.actor());
         }
-        let mut things = Things::of(walk, names, receivers, actors);
+        let mut things = Entities::of(walk, names, receivers, actors);
         let users = users.into_iter();
         things.users = users
             .filter_map(|(handle, user)| Some((handle, names.actor(user?))))
@@ -214,26 +218,26 @@ impl Things {
     /// before an actor.
     fn named(
         channels: Vec<(String, bool)>,
-        receivers: BTreeMap<(u32, u32), String>,
-        actors: BTreeMap<u32, String>,
-    ) -> Things {
+        receivers: NumberMap<(u32, u32), String>,
+        actors: NumberMap<u32, String>,
+    ) -> Entities {
         let of_actors = actors
             .iter()
-            .map(|(actor, name)| (name.clone(), Thing::Actor(*actor)));
+            .map(|(actor, name)| (name.clone(), Entity::Actor(*actor)));
         let of_channels = (0..).zip(&channels);
-        let of_channels = of_channels.map(|(it, (name, _))| (name.clone(), Thing::Channel(it)));
+        let of_channels = of_channels.map(|(it, (name, _))| (name.clone(), Entity::Channel(it)));
         let of_receivers = receivers.iter().rev();
         let of_receivers = of_receivers.map(|((channel, handle), name)| {
-            let receiver = Thing::Receiver(*channel, *handle);
+            let receiver = Entity::Receiver(*channel, *handle);
             (name.clone(), receiver)
         });
-        Things {
+        Entities {
             by_name: of_actors.chain(of_channels).chain(of_receivers).collect(),
             channels,
             receivers,
-            numbers: BTreeMap::new(),
+            numbers: NumberMap::new(),
             actors,
-            users: BTreeMap::new(),
+            users: NumberMap::new(),
         }
     }
 
@@ -258,19 +262,19 @@ impl Things {
 
     /// Returns what a name stands for: a receiver, a channel, or an actor; or `channel0`, or the
     /// receiver of a number as `orders.receiver1`.
-    pub fn find(&self, name: &str) -> Option<Thing> {
+    pub fn find(&self, name: &str) -> Option<Entity> {
         if let Some(thing) = self.by_name.get(&*visible::name(name)) {
             return Some(*thing);
         }
         if let Some((channel, receiver)) = name.rsplit_once('.') {
-            let Some(Thing::Channel(channel)) = self.find(channel) else {
+            let Some(Entity::Channel(channel)) = self.find(channel) else {
                 return None;
             };
             let handle = self.receiver_numbered(channel, receiver)?;
-            return Some(Thing::Receiver(channel, handle));
+            return Some(Entity::Receiver(channel, handle));
         }
         let channel = numbered(name, "channel")?;
-        ((channel as usize) < self.channels.len()).then_some(Thing::Channel(channel))
+        ((channel as usize) < self.channels.len()).then_some(Entity::Channel(channel))
     }
 
     /// Returns the actor of a name.
@@ -323,31 +327,34 @@ impl Things {
     }
 
     /// Returns the thing of this sort that has this name.
-    pub(super) fn named_of(&self, sort: Sort, name: &str) -> Option<Thing> {
+    pub(super) fn named_of(&self, sort: ConditionSubject, name: &str) -> Option<Entity> {
         let is_meant = |channel| sort.is_of_channel(self.is_watch(channel));
         Some(match sort {
-            Sort::Reply => return None,
-            Sort::Actor => Thing::Actor(self.actor(name)?),
-            Sort::Channel | Sort::Broadcast | Sort::Watch => {
-                Thing::Channel(self.channel(name, is_meant)?)
+            ConditionSubject::Reply => return None,
+            ConditionSubject::Actor => Entity::Actor(self.actor(name)?),
+            ConditionSubject::Channel | ConditionSubject::Broadcast | ConditionSubject::Watch => {
+                Entity::Channel(self.channel(name, is_meant)?)
             }
-            Sort::BroadcastReceiver | Sort::WatchReceiver => {
+            ConditionSubject::BroadcastReceiver | ConditionSubject::WatchReceiver => {
                 let (channel, handle) = self.receiver(name, is_meant)?;
-                Thing::Receiver(channel, handle)
+                Entity::Receiver(channel, handle)
             }
         })
     }
 
     /// Whether there is a thing of this sort that has this name, or these numbers.
-    fn has(&self, sort: Sort, name: &str) -> bool {
+    fn has(&self, sort: ConditionSubject, name: &str) -> bool {
         let numbers: Option<Vec<u32>> = name.split(' ').map(|it| it.parse().ok()).collect();
         let is_meant = |channel: &u32| sort.is_of_channel(self.is_watch(*channel));
         self.named_of(sort, name).is_some()
             || match (sort, numbers.as_deref()) {
-                (Sort::Actor, Some([actor])) => self.actors.contains_key(actor),
-                (Sort::Channel | Sort::Broadcast | Sort::Watch, Some([channel])) => {
-                    is_meant(channel)
-                }
+                (ConditionSubject::Actor, Some([actor])) => self.actors.contains_key(actor),
+                (
+                    ConditionSubject::Channel
+                    | ConditionSubject::Broadcast
+                    | ConditionSubject::Watch,
+                    Some([channel]),
+                ) => is_meant(channel),
                 (_, Some([channel, handle])) => {
                     is_meant(channel) && self.receivers.contains_key(&(*channel, *handle))
                 }
@@ -356,17 +363,19 @@ impl Things {
     }
 
     /// Returns the names of the things of this sort.
-    pub(crate) fn names_of(&self, sort: Sort) -> Vec<String> {
+    pub(crate) fn names_of(&self, sort: ConditionSubject) -> Vec<String> {
         let is_meant = |channel: u32| sort.is_of_channel(self.is_watch(channel));
         match sort {
-            Sort::Reply => Vec::new(),
-            Sort::Actor => self.actors.values().cloned().collect(),
-            Sort::Channel | Sort::Broadcast | Sort::Watch => (0..)
-                .zip(&self.channels)
-                .filter(|(channel, _)| is_meant(*channel))
-                .map(|(_, (name, _))| name.clone())
-                .collect(),
-            Sort::BroadcastReceiver | Sort::WatchReceiver => {
+            ConditionSubject::Reply => Vec::new(),
+            ConditionSubject::Actor => self.actors.values().cloned().collect(),
+            ConditionSubject::Channel | ConditionSubject::Broadcast | ConditionSubject::Watch => {
+                (0..)
+                    .zip(&self.channels)
+                    .filter(|(channel, _)| is_meant(*channel))
+                    .map(|(_, (name, _))| name.clone())
+                    .collect()
+            }
+            ConditionSubject::BroadcastReceiver | ConditionSubject::WatchReceiver => {
                 let meant = self.receivers.iter();
                 let meant = meant.filter(|((channel, _), _)| is_meant(*channel));
                 meant
@@ -396,7 +405,7 @@ fn numbered(name: &str, word: &str) -> Option<u32> {
 mod tests {
     use super::*;
 
-    fn things() -> Things {
+    fn things() -> Entities {
         let named = |name: &str, is_watch| (name.to_string(), is_watch);
         let receivers = [
             ((0, 1), "audit"),
@@ -404,7 +413,7 @@ mod tests {
             ((1, 1), "the reader"),
         ];
         let actors = [(0, "main"), (1, "audit"), (4, "7")];
-        Things::named(
+        Entities::named(
             vec![named("orders", false), named("config", true)],
             receivers.map(|(it, name)| (it, name.to_string())).into(),
             actors.map(|(it, name)| (it, name.to_string())).into(),
@@ -417,11 +426,11 @@ mod tests {
         things.numbers = [((0, 1), NO_NUMBER), ((0, 2), 107), ((1, 1), 2)].into();
         assert_eq!(
             things.find("orders.receiver107"),
-            Some(Thing::Receiver(0, 2))
+            Some(Entity::Receiver(0, 2))
         );
         assert_eq!(
             things.find("channel1.receiver2"),
-            Some(Thing::Receiver(1, 1))
+            Some(Entity::Receiver(1, 1))
         );
         for text in ["orders.receiver1", "orders.receiver2", "config.receiver1"] {
             assert_eq!(things.find(text), None, "{text}");
@@ -491,7 +500,7 @@ mod tests {
             assert!(!condition.is_of(&things()), "{text}");
         }
         assert_eq!(
-            things().names_of(Sort::BroadcastReceiver),
+            things().names_of(ConditionSubject::BroadcastReceiver),
             ["audit", "orders.receiver2"]
         );
     }
@@ -504,7 +513,7 @@ mod tests {
             super::super::recorded::Opened::read(journal.as_bytes(), Some(names.to_string()));
         let opened = opened.unwrap_or_else(|fault| panic!("{fault}"));
         assert_eq!(opened.names_fault, None);
-        let things = Things::found_in(&opened.walk, &opened.recorded);
+        let things = Entities::found_in(&opened.walk, &opened.recorded);
         let condition: NamedCondition = "lagging audit".parse().unwrap();
         assert_eq!(
             condition.by_numbers(&things).unwrap().to_string(),

@@ -6,12 +6,12 @@
 use super::{Entry, JournalError, Walk};
 use crate::run::account::Saying;
 use crate::run::journal::{Run, TextFault};
-use crate::run::names::{Names, checksum, test_beside};
 use crate::run::report::Report;
+use crate::run::sidecar::{Sidecar, checksum, test_beside};
 use std::path::Path;
 
-pub use super::named::{NamedCondition, Thing, Things};
-pub use crate::run::names::{SourceLocation, read_whole};
+pub use super::named::{Entities, Entity, NamedCondition};
+pub use crate::run::sidecar::{SourceLocation, read_whole};
 
 /// A journal with its names, and what was found in its run.
 pub struct Recorded {
@@ -37,7 +37,7 @@ pub struct Opened {
 /// # Errors
 ///
 /// Returns that there is no memory.
-pub(crate) fn opened(run: Run, names: Names) -> Result<(Walk, Recorded), JournalError> {
+pub(crate) fn opened(run: Run, names: Sidecar) -> Result<(Walk, Recorded), JournalError> {
     let walk = Walk::over(&run)?;
     Ok((walk, Recorded::of(run, names).map_err(JournalError)?))
 }
@@ -67,13 +67,13 @@ impl Opened {
         };
         // The names of a journal that was truncated since can't be told from those of another one.
         let read = names.map(|names| match cut_off {
-            None => Names::of_journal(&names, text),
-            Some(_) => Names::read(&names),
+            None => Sidecar::of_journal(&names, text),
+            Some(_) => Sidecar::read(&names),
         });
         let (names, names_fault) = match read {
             Some(Ok(names)) => (names, None),
-            Some(Err(fault)) => (Names::default(), Some(fault)),
-            None => (Names::default(), None),
+            Some(Err(fault)) => (Sidecar::default(), Some(fault)),
+            None => (Sidecar::default(), None),
         };
         let (walk, recorded) = opened(run, names)?;
         Ok(Opened {
@@ -86,7 +86,7 @@ impl Opened {
 }
 
 impl Recorded {
-    fn of(run: Run, names: Names) -> Result<Recorded, TextFault> {
+    fn of(run: Run, names: Sidecar) -> Result<Recorded, TextFault> {
         let (saying, account) = Saying::of(&run, names)?;
         Ok(Recorded {
             saying,
@@ -116,7 +116,7 @@ impl Recorded {
         self.saying.names().lead()
     }
 
-    /// Returns by how many values a receiver really lags that lags by so many in the journal: a
+    /// Returns by how many values a receiver really lags that lags by `lag` in the journal: a
     /// window may let one lag by 1 of which none of its calls tells.
     pub fn lag(&self, channel: u32, handle: u32, lag: u64) -> u64 {
         let window = self.saying.names().window_of(channel);

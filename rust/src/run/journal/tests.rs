@@ -4,8 +4,8 @@ mod model;
 
 use super::{LossEnd, Run, RunEntry, Spec, TextFault, values_between};
 use crate::channels::backend::{Actor, Caller, Cut, Recording};
+use crate::run::operation::Operation;
 use crate::run::reply::Reply;
-use crate::run::word::Word;
 use model::Model;
 use std::process::Command;
 
@@ -253,9 +253,9 @@ fn specs_and_entries_are_those_of_the_text() {
         reply,
     };
     let wanted = [
-        entry(2, 1, 0, 0, Word::Send, Some(5), Reply::Sent(1)),
-        entry(2, 0, 1, 0, Word::Modify, Some(9), Reply::Told(0)),
-        entry(7, 0, 0, 1, Word::Drop, None, Reply::Dropped),
+        entry(2, 1, 0, 0, Operation::Send, Some(5), Reply::Sent(1)),
+        entry(2, 0, 1, 0, Operation::Modify, Some(9), Reply::Told(0)),
+        entry(7, 0, 0, 1, Operation::Drop, None, Reply::Dropped),
     ];
     assert_eq!(run.len(), 3);
     assert!(run.entries().eq((1..).zip(wanted)));

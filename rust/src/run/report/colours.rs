@@ -34,6 +34,17 @@ impl Colours {
         self.within(&format!("{BOLD}{colour}"), &format!("{}:", level.word()))
     }
 
+    /// What is below a line of the sources: at the first place of a fact in the colour of its
+    /// level, and else as rustc colours what it adds.
+    pub(super) fn label(self, level: Level, nth: usize, label: &str) -> String {
+        let colour = match (level, nth) {
+            (Level::Error, 0) => RED,
+            (Level::Warning, 0) => YELLOW,
+            _ => CYAN,
+        };
+        self.within(&format!("{BOLD}{colour}"), label)
+    }
+
     pub(super) fn head(self, head: &str) -> String {
         self.within(BOLD, head)
     }

@@ -3,7 +3,7 @@
 //! result without a place, so what has none is a notification.
 
 use crate::run::account::{Account, Fact, FactStep, Failed, WaitAtEnd};
-use crate::run::names::{Json, SourceLocation};
+use crate::run::sidecar::{Json, SourceLocation};
 use std::env;
 use std::path::Path;
 
@@ -84,11 +84,11 @@ pub(crate) fn sarif(account: &Account) -> String {
     out
 }
 
-/// Returns the first place of a fact in the sources, or else that of the failure.
+/// Returns the first place of a fact in the user's sources, or else that of the failure.
 fn place_of<'a>(account: &'a Account, fact: &'a Fact) -> Option<&'a SourceLocation> {
-    let first = fact.sights().next().map(|(_, location)| location);
     let failed = account.failed.as_ref();
-    first.or(failed.and_then(Failed::location))
+    fact.own_location()
+        .or(failed.and_then(Failed::own_location))
 }
 
 /// Why there is a dump, what isn't known of the run, and what has no place in the sources, as
@@ -107,15 +107,24 @@ fn invocation(account: &Account) -> Option<(&'static str, Json)> {
     let facts = account.with_levels();
     let facts = facts.filter(|(_, fact)| place_of(account, fact).is_none());
     let facts = facts.map(|(level, fact)| notification(level.word(), &fact.text().join("\n")));
-    let failed = account.failed.iter().filter(|it| it.location().is_none());
+    let failed = account
+        .failed
+        .iter()
+        .filter(|it| it.own_location().is_none());
     let failed = failed.map(|failed| notification("error", &failed.text));
-    let waits = account.waiting.iter().filter(|it| it.location().is_none());
+    let waits = account
+        .waiting
+        .iter()
+        .filter(|it| it.own_location().is_none());
     let waits = waits.map(|wait| notification("note", &wait.text));
+    let tasks = account.pending.iter();
+    let tasks = tasks.map(|task| notification("note", &format!("waits: {}", task.text)));
     let notifications = window
         .chain(unknown)
         .chain(failed)
         .chain(facts)
-        .chain(waits);
+        .chain(waits)
+        .chain(tasks);
     let notifications: Vec<_> = notifications.collect();
     let is_needed = !notifications.is_empty();
     let invocation = Json::object(vec![
@@ -170,12 +179,12 @@ impl Places {
     }
 
     fn failure(&self, failed: &Failed) -> Option<Json> {
-        let location = failed.location()?;
+        let location = failed.own_location()?;
         Some(self.result(FAILURE, "error", &failed.text, location, None))
     }
 
     fn wait(&self, wait: &WaitAtEnd) -> Option<Json> {
-        let location = wait.location()?;
+        let location = wait.own_location()?;
         Some(self.result(WAITING, "note", &wait.text, location, None))
     }
 
@@ -213,7 +222,7 @@ impl Places {
     /// A step of a fact in its code flow.
     fn flow_location(&self, order: usize, step: &FactStep, line: &str) -> Json {
         let mut location = vec![];
-        if let Some(source) = &step.location {
+        if let Some(source) = step.own_location() {
             location.push(("physicalLocation", self.physical(source)));
         }
         location.push(("message", message(line.trim_start())));

@@ -1,7 +1,7 @@
 //! The whole text for runs of each kind. The runs are small, and their texts are worked by hand.
 
 use super::Report;
-use crate::run::names::Names;
+use crate::run::sidecar::Sidecar;
 
 /// Returns the text on a run: its channels, its entries without stamps, and the names beside it.
 fn said(channels: &[&str], entries: &[&str], names: &str) -> String {
@@ -9,7 +9,7 @@ fn said(channels: &[&str], entries: &[&str], names: &str) -> String {
 }
 
 fn said_of(journal: &str, names: &str) -> String {
-    let names = Names::read(names).unwrap();
+    let names = Sidecar::read(names).unwrap();
     let report = Report::new(journal.as_bytes(), &names).unwrap();
     let look = super::at_call(report.call());
     report.text(Some(look), false)

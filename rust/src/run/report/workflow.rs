@@ -20,15 +20,15 @@ impl Workflow {
         })
     }
 
-    /// Returns the command that shows a fact beside its first place in the sources, as a line.
-    /// Paths are relative to `root`, if that is known.
+    /// Returns the command that shows a fact beside its first place in the user's sources, as a
+    /// line. Paths are relative to `root`, if that is known.
     pub(super) fn command(&self, level: Level, fact: &Fact, root: Option<&str>) -> String {
         let word = match level {
             Level::Note => "notice",
             level => level.word(),
         };
         let mut command = format!("::{word} ");
-        if let Some((_, location)) = fact.sights().next() {
+        if let Some(location) = fact.own_location() {
             let file = property(&self.in_repository(&location.file, root));
             let (line, column) = (location.line, location.column);
             let _ = write!(command, "file={file},line={line},col={column},");

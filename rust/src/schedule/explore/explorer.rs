@@ -6,15 +6,15 @@
 //! deadlock.
 
 use super::chooser::Chooser;
-use super::looks::CallInSource;
 use super::order::Order;
 use super::schedule::{RunEnd, Schedule};
+use super::spinning::CallInSource;
 use super::state::ExplorerState;
 use super::threads::this_thread;
 use crate::channels::actors::{self, is_in_task, last_task, set_last_task};
-use crate::channels::turns::{Coming, Tasks, TestEnd, Ticket, Turns};
-use crate::run::names::Maker;
-use crate::run::word::CallSet;
+use crate::channels::turns::{ArrivingCall, Tasks, TestEnd, Ticket, Turns};
+use crate::run::operation::CallSet;
+use crate::run::sidecar::Maker;
 use crate::schedule::entrance::Entrance;
 use std::cell::OnceCell;
 use std::io;
@@ -60,7 +60,7 @@ impl Explorer {
     }
 
     /// Blocks until the call is let go. Returns `false` if all calls pass.
-    fn wait(&self, coming: Coming) -> bool {
+    fn wait(&self, coming: ArrivingCall) -> bool {
         if self.entrance.is_over() {
             return false;
         }
@@ -90,7 +90,7 @@ impl Explorer {
 
     /// Notes that this call is made now, which has passed here. Nobody else goes on before it is
     /// made. `has_unread` says whether its receiver has anything to receive.
-    fn goes(&self, coming: &Coming, has_unread: bool) {
+    fn goes(&self, coming: &ArrivingCall, has_unread: bool) {
         let mut state = self.entrance.enter();
         let who = who(&mut state);
         state.looks.goes(&who, CallInSource::of(coming), has_unread);
@@ -186,7 +186,7 @@ impl Turns for Explorer {
         Some(self.channels.fetch_add(1, Ordering::Relaxed))
     }
 
-    fn pass(&self, coming: Coming, has_unread: &dyn Fn() -> bool) -> bool {
+    fn pass(&self, coming: ArrivingCall, has_unread: &dyn Fn() -> bool) -> bool {
         if self.wait(coming) {
             let takes = coming.word.is(CallSet::TAKES);
             self.goes(&coming, takes && has_unread());
@@ -194,14 +194,14 @@ impl Turns for Explorer {
         false
     }
 
-    fn pass_to_modify(&self, coming: Coming) {
+    fn pass_to_modify(&self, coming: ArrivingCall) {
         self.wait(coming);
     }
 
     /// Blocks the thread, whose task was let go before.
     fn poll(
         &self,
-        coming: Coming,
+        coming: ArrivingCall,
         has_unread: &dyn Fn() -> bool,
         _ticket: &mut Option<Ticket>,
         _context: &Context<'_>,
@@ -210,7 +210,7 @@ impl Turns for Explorer {
     }
 
     /// It is no call that could be chosen.
-    fn note_question(&self, _coming: Coming) {}
+    fn note_question(&self, _coming: ArrivingCall) {}
 
     fn leave(&self, _ticket: Ticket) {}
 

@@ -10,8 +10,8 @@ use super::random::{Random, hashed};
 use super::run;
 use super::schedule::What;
 use crate::channels::channel::Known;
-use crate::run::debugger::named::{NamedCondition, Sort};
-use crate::run::word::Word;
+use crate::run::debugger::named::{ConditionSubject, NamedCondition};
+use crate::run::operation::Operation;
 use call::StandingCall;
 use std::collections::{HashMap, HashSet};
 use std::sync::Arc;
@@ -35,9 +35,9 @@ pub(super) struct Guide {
     look: fn() -> Vec<Known>,
     seed: u64,
     random: Random,
-    /// Of so many choices one is made by chance. 0 stands for none.
+    /// One choice in this number is made by chance. 0 stands for none.
     by_chance: usize,
-    /// So many are made by chance at first.
+    /// How many choices are made by chance at first.
     at_first: usize,
     /// Whether of those who do as well the same one always goes first, and not one by chance.
     has_favourites: bool,
@@ -125,7 +125,7 @@ impl Guide {
                 handle,
             } => {
                 let known = channels.iter().find(|known| known.number == *channel);
-                let (Some(channel), Some(word)) = (known, Word::of_text(word)) else {
+                let (Some(channel), Some(word)) = (known, Operation::of_text(word)) else {
                     return Effect::None;
                 };
                 self.effect_of_call(&StandingCall {
@@ -140,7 +140,7 @@ impl Guide {
 
     /// What a task does isn't known before its poll, but what it did before.
     fn effect_of_poll(&self, who: &Arc<str>, channels: &[Known]) -> Effect {
-        if self.condition.sort == Sort::Actor {
+        if self.condition.sort == ConditionSubject::Actor {
             return self.of_actor(who);
         }
         let habit = self.habits.get(who).copied().unwrap_or_default();
@@ -157,7 +157,7 @@ impl Guide {
     fn is_to_begin(&self, who: &str, channels: &[Known]) -> bool {
         matches!(
             self.condition.sort,
-            Sort::BroadcastReceiver | Sort::WatchReceiver
+            ConditionSubject::BroadcastReceiver | ConditionSubject::WatchReceiver
         ) && who == self.condition.name
             && self.read_by_name.is_empty()
             && !channels.iter().any(|channel| self.has_receiver(channel))
@@ -167,23 +167,27 @@ impl Guide {
     /// go.
     fn is_to_stand_at_send(&self, who: &str) -> bool {
         let is_of_send =
-            self.condition.sort == Sort::Reply && self.condition.name == "no-receivers";
+            self.condition.sort == ConditionSubject::Reply && self.condition.name == "no-receivers";
         is_of_send && self.habits.get(who).is_some_and(|habit| habit.leads_away)
     }
 
     fn effect_of_call(&mut self, call: &StandingCall<'_>) -> Effect {
         match self.condition.sort {
-            Sort::Reply if !call.sends() && self.is_to_stand_at_send(call.who) => Effect::First,
-            Sort::Actor => self.of_actor(call.who),
-            Sort::Reply => call.effect_on_reply(&self.condition.name),
-            Sort::Channel | Sort::Broadcast | Sort::Watch => {
+            ConditionSubject::Reply if !call.sends() && self.is_to_stand_at_send(call.who) => {
+                Effect::First
+            }
+            ConditionSubject::Actor => self.of_actor(call.who),
+            ConditionSubject::Reply => call.effect_on_reply(&self.condition.name),
+            ConditionSubject::Channel | ConditionSubject::Broadcast | ConditionSubject::Watch => {
                 if is_channel(&self.condition.name, call.channel) {
                     call.effect_on_channel(self.condition.word)
                 } else {
                     Effect::None
                 }
             }
-            Sort::BroadcastReceiver | Sort::WatchReceiver => self.effect_on_receiver(call),
+            ConditionSubject::BroadcastReceiver | ConditionSubject::WatchReceiver => {
+                self.effect_on_receiver(call)
+            }
         }
     }
 
@@ -196,7 +200,7 @@ impl Guide {
     }
 
     fn effect_on_receiver(&mut self, call: &StandingCall<'_>) -> Effect {
-        let is_of_watch = self.condition.sort == Sort::WatchReceiver;
+        let is_of_watch = self.condition.sort == ConditionSubject::WatchReceiver;
         if call.channel.is_watch != is_of_watch {
             return Effect::None;
         }
@@ -206,8 +210,8 @@ impl Guide {
         }
         if self.is_receiver(call.channel, call.handle) {
             return match call.word {
-                Word::MarkChanged => Effect::Nearer,
-                _ if call.receives() || call.word == Word::Drop => Effect::Away,
+                Operation::MarkChanged => Effect::Nearer,
+                _ if call.receives() || call.word == Operation::Drop => Effect::Away,
                 _ => Effect::None,
             };
         }

@@ -21,12 +21,12 @@ pub(crate) enum OrderKind {
     Steps(Vec<(u32, u32)>),
     /// Each with the same chance.
     Random(u64),
-    /// The one with the highest priority, which changes at `depth - 1` of so many steps.
+    /// The one with the highest priority, which changes at `depth - 1` of `steps` steps.
     Pct { depth: u32, seed: u64, steps: u32 },
     /// Partial-order sampling: each call has a priority of its own.
     Pos(u64),
-    /// What brings the condition nearer that the test is explored for. So many steps have others to
-    /// choose.
+    /// What brings the condition nearer that the test is explored for. In `steps` steps there are
+    /// others to choose.
     Guided { seed: u64, steps: u32 },
     /// Those of a schedule's file, as far as they can be made.
     File(PathBuf),

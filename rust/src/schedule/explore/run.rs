@@ -208,7 +208,7 @@ pub(crate) fn end(recorder: &Recorder, has_failed: bool, why_nothing: fn() -> St
     }
 }
 
-/// Says how a schedule of so many steps was followed.
+/// Says how a schedule of `steps` steps was followed.
 fn said(followed: &Schedule, steps: usize) -> String {
     let end = match followed.end {
         RunEnd::Passed => "the test passed",

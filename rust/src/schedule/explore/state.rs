@@ -1,11 +1,12 @@
 //! Who stands before the gate, and how the next one is chosen. The explorer locks it.
 
 use super::chooser::{Candidate, Chooser};
-use super::looks::{CallInSource, Looks};
 use super::order::Order;
 use super::schedule::{Schedule, Step, Turn, What};
+use super::spinning::{CallInSource, SpinDetector};
 use super::threads::{Asked, SOON, Sleeper, ThreadId, Threads, this_thread};
-use crate::channels::turns::Coming;
+use crate::channels::turns::ArrivingCall;
+use crate::run::sorting::sort_by;
 use std::collections::HashMap;
 use std::sync::{Arc, Condvar};
 use std::task::Waker;
@@ -26,7 +27,7 @@ const TIME: &str = "(time)";
 pub(super) struct Stand {
     pub(super) who: Arc<str>,
     /// `None` for the poll of a task.
-    pub(super) call: Option<Coming>,
+    pub(super) call: Option<ArrivingCall>,
     pub(super) thread: ThreadId,
     pub(super) number: u64,
     pub(super) is_chosen: bool,
@@ -44,7 +45,7 @@ pub(super) struct ExplorerState {
     pub(super) stands: Vec<Stand>,
     pub(super) chooser: Chooser,
     pub(super) schedule: Schedule,
-    pub(super) looks: Looks,
+    pub(super) looks: SpinDetector,
     pub(super) threads: Threads,
     /// What the helper is to wake, and how many it wakes now.
     pub(super) wakers: Vec<Waker>,
@@ -77,7 +78,7 @@ impl ExplorerState {
             stands: Vec::new(),
             chooser,
             schedule,
-            looks: Looks::default(),
+            looks: SpinDetector::default(),
             threads,
             wakers: Vec::new(),
             waking: 0,
@@ -111,7 +112,7 @@ impl ExplorerState {
     }
 
     /// Adds one who stands from now on, on this thread.
-    pub(super) fn add(&mut self, who: Arc<str>, call: Option<Coming>) -> &mut Stand {
+    pub(super) fn add(&mut self, who: Arc<str>, call: Option<ArrivingCall>) -> &mut Stand {
         let thread = this_thread();
         self.new_round(thread);
         let number = self.next_number;
@@ -326,7 +327,7 @@ impl ExplorerState {
             standing.retain(|stand| !is_idle(stand));
         }
         let mut all: Vec<Candidate> = standing.into_iter().map(candidate).collect();
-        all.sort_by(|a, b| (&a.who, a.number).cmp(&(&b.who, b.number)));
+        sort_by(&mut all, |a, b| (&a.who, a.number).cmp(&(&b.who, b.number)));
         let is_time_near = self.is_time_near(rest);
         let first = if is_any_busy {
             all.iter()

@@ -15,7 +15,7 @@ pub(super) enum Doing {
 /// Until when a thread waits that waits for time.
 #[derive(Clone, Copy, Debug, PartialEq, Eq)]
 pub(super) enum Timer {
-    /// So many milliseconds from where the wait began.
+    /// This number of milliseconds from where the wait began.
     Milliseconds(u64),
     /// A time that stands at this address. It is one of a clock, or one from where the wait began.
     At { address: u64, is_of_clock: bool },

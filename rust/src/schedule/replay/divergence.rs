@@ -1,12 +1,12 @@
 //! Where a replay diverges from its journal, and why, in words.
 
-use super::Coming;
+use super::ArrivingCall;
 use super::outcome::{call_of, push_actor, push_channel, step_in_words};
 use super::plan::Plan;
 use super::state::GateState;
 use crate::channels::backend::Actor;
 use crate::channels::channel::CallSite;
-use crate::run::word::CallSet;
+use crate::run::operation::CallSet;
 use std::fmt::Write as _;
 use std::time::Duration;
 
@@ -26,7 +26,7 @@ pub(super) fn in_words(
     plan: &Plan,
     state: &GateState,
     came: CameInstead,
-    coming: Option<&Coming>,
+    coming: Option<&ArrivingCall>,
 ) -> String {
     let mut words = format!("diverges at {}: expected ", call_of(plan, state.position));
     if let Some(step) = plan.steps.get(state.position) {
@@ -69,7 +69,7 @@ fn of_unnamed_tasks(plan: &Plan, state: &GateState) -> &'static str {
 
 /// Returns a call that has come. One of a caller whose name the journal doesn't have is told by its
 /// place, or else by that of the caller's last call.
-fn call_in_words(plan: &Plan, state: &GateState, coming: &Coming) -> String {
+fn call_in_words(plan: &Plan, state: &GateState, coming: &ArrivingCall) -> String {
     let mut words = format!("`{} {}` on ", coming.word.text(), coming.handle);
     push_channel(&mut words, plan, coming.channel);
     push_actor(&mut words, plan, coming.actor);
@@ -93,7 +93,7 @@ fn push_place(words: &mut String, before: &str, at: CallSite) {
 
 /// Says what questions without an entry have to do with it: what they return is in no order, and
 /// the caller may have gone by it.
-fn of_questions(plan: &Plan, state: &GateState, coming: Option<&Coming>) -> String {
+fn of_questions(plan: &Plan, state: &GateState, coming: Option<&ArrivingCall>) -> String {
     let expected = plan.steps.get(state.position);
     let expected = expected.map(|step| Actor::of(step.call.actor as usize));
     let expected = expected.filter(|actor| plan.is_named(*actor));

@@ -8,7 +8,7 @@ use super::divergence::{self, CameInstead};
 use super::outcome::{self, Replayed};
 use super::plan::Plan;
 use super::state::{GateState, Standing, Wakes};
-use super::{Coming, Identity, stop};
+use super::{ArrivingCall, Identity, stop};
 use crate::channels::backend::Actor;
 use crate::channels::reentrant::thread_number;
 use crate::channels::standard_error::say;
@@ -93,7 +93,7 @@ impl Gate {
         self.plan.actors()
     }
 
-    fn wait(&self, coming: Coming, wait: TurnFor) -> bool {
+    fn wait(&self, coming: ArrivingCall, wait: TurnFor) -> bool {
         let lane = self.plan.lane_of(&coming);
         let user = Identity::current();
         let mut state = self.entrance.enter();
@@ -128,7 +128,7 @@ impl Gate {
         &self,
         state: &GateState,
         lane: Option<u32>,
-        coming: &Coming,
+        coming: &ArrivingCall,
         wait: TurnFor,
     ) -> Standing {
         match wait {
@@ -150,7 +150,7 @@ impl Gate {
         &'a self,
         mut state: MutexGuard<'a, GateState>,
         lane: Option<u32>,
-        coming: &Coming,
+        coming: &ArrivingCall,
         wait: TurnFor,
     ) -> (MutexGuard<'a, GateState>, bool) {
         let (began, thread) = (state.clock.now(), thread_number());
@@ -215,7 +215,7 @@ impl Gate {
     /// Returns how long a thread waits without progress, and whether it is its own actor's turn, by
     /// another call. The time is short where the wait may keep the turn away: it is that of its own
     /// actor or thread, or the thread unwinds a panic.
-    fn limit(&self, state: &GateState, coming: &Coming, thread: usize) -> (Duration, bool) {
+    fn limit(&self, state: &GateState, coming: &ArrivingCall, thread: usize) -> (Duration, bool) {
         let Some(step) = self.plan.steps.get(state.position) else {
             return (SHORT, false);
         };
@@ -254,7 +254,7 @@ impl Gate {
     }
 
     /// Leaves the journal's order, and says so. What came is of this call.
-    fn diverge(&self, state: &mut GateState, came: CameInstead, coming: Option<&Coming>) {
+    fn diverge(&self, state: &mut GateState, came: CameInstead, coming: Option<&ArrivingCall>) {
         let line = divergence::in_words(&self.plan, state, came, coming);
         say(&format!(
             "the replay {line}; from here on, calls are in no order"

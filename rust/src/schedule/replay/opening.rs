@@ -9,7 +9,7 @@ use crate::channels::lock::lock;
 use crate::channels::recorder::Recorder;
 use crate::channels::turns::{self, Polls, explored};
 use crate::run::journal::{self, Run};
-use crate::run::names::Names;
+use crate::run::sidecar::Sidecar;
 use std::path::Path;
 use std::sync::{Arc, Mutex, Weak};
 use std::task::Context;
@@ -35,7 +35,7 @@ pub(crate) fn open(path: &Path, recorder: u64) -> io::Result<Arc<Gate>> {
     let patience = patience(env::var(PATIENCE).ok())?;
     let text = fs::read(path).map_err(|error| of_file(path, &error))?;
     let run = Run::read(&text).map_err(|fault| of_file(path, &journal::said(fault)))?;
-    let names = Names::beside(path, &text)
+    let names = Sidecar::beside(path, &text)
         .map_err(|fault| of_file(&path.with_extension("names"), &fault))?;
     let names = names.map(|(names, _)| names).unwrap_or_default();
     if names.window.is_some() {

@@ -1,13 +1,13 @@
 //! How a replay went, in words.
 
-use super::Coming;
+use super::ArrivingCall;
 use super::divergence::of_tasks;
 use super::plan::{Plan, PlannedCall};
 use super::state::GateState;
 use crate::channels::backend::Actor;
 use crate::channels::recorder::NotedPanic;
 use crate::channels::turns::TestEnd;
-use crate::run::names::{Names, Panic, SourceLocation};
+use crate::run::sidecar::{Panic, Sidecar, SourceLocation};
 use std::fmt::{self, Write as _};
 
 /// How a replay has gone so far, returned by [`Recorder::replayed`](crate::Recorder::replayed).
@@ -193,7 +193,7 @@ pub(super) fn replayed(plan: &Plan, state: &GateState) -> Replayed {
 
 /// Returns the panics that the names have, up to the one that ended the test. Those after it are of
 /// the unwinding.
-fn failures(names: &Names) -> Vec<PanicBefore> {
+fn failures(names: &Sidecar) -> Vec<PanicBefore> {
     let count = names.ending.ended_by.map_or(usize::MAX, |index| index + 1);
     let panics = names.ending.panics.iter().take(count);
     let failure = |panic: &Panic| {
@@ -303,7 +303,7 @@ const NAME_EACH: &str = "and a replay can't tell them apart: give each a name of
 
 /// Says that several callers use the handle of this call, which may be one that has moved between
 /// workers of a runtime.
-pub(super) fn shared_handle(plan: &Plan, coming: &Coming, may_be_moved: bool) -> String {
+pub(super) fn shared_handle(plan: &Plan, coming: &ArrivingCall, may_be_moved: bool) -> String {
     let who = if may_be_moved {
         "workers of a runtime"
     } else {

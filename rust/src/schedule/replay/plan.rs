@@ -6,13 +6,14 @@
 //! share the lanes of a handle, and so do all callers for its drop: who drops the last `Arc` isn't
 //! in the journal.
 
-use super::Coming;
+use super::ArrivingCall;
 use crate::channels::actors::{MOST_TASKS, SPAWNED_TASK, UNNAMED_TASK, UNNAMED_THREAD};
 use crate::channels::backend::Actor;
 use crate::run::journal::{Run, RunEntry};
-use crate::run::names::{Maker, Names};
-use crate::run::word::Word;
-use std::collections::{BTreeMap, HashMap, HashSet};
+use crate::run::numbered::NumberMap;
+use crate::run::operation::Operation;
+use crate::run::sidecar::{Maker, Sidecar};
+use std::collections::{HashMap, HashSet};
 
 /// No step.
 pub(super) const NONE: u32 = u32::MAX;
@@ -45,7 +46,7 @@ pub(super) struct PlannedCall {
 /// The calls of a journal, as a replay follows them.
 pub(super) struct Plan {
     pub(super) steps: Vec<PlannedCall>,
-    pub(super) names: Names,
+    pub(super) names: Sidecar,
     lanes: HashMap<(u32, u32, Class), u32>,
     /// The first step of each lane.
     pub(super) first_of_lane: Vec<u32>,
@@ -62,7 +63,7 @@ pub(super) struct Plan {
 
 impl Plan {
     /// Returns the plan of a run with these names.
-    pub(super) fn new(run: &Run, names: Names) -> Plan {
+    pub(super) fn new(run: &Run, names: Sidecar) -> Plan {
         let classes = std::array::from_fn(|actor| class_of(actor, &names));
         let named = (0..).zip(&classes).filter_map(|(actor, class)| {
             let name = names.actors.get(&u64::from(actor))?;
@@ -104,7 +105,7 @@ impl Plan {
                 Some(before) => {
                     before.next_in_lane = step;
                     self.is_shared[lane as usize] |=
-                        before.call.actor != actor && call.word != Word::Drop;
+                        before.call.actor != actor && call.word != Operation::Drop;
                 }
                 None => self.first_of_lane[lane as usize] = step,
             }
@@ -158,7 +159,7 @@ impl Plan {
         let dropped: HashSet<_> = self
             .steps
             .iter()
-            .filter(|step| step.call.word == Word::Drop)
+            .filter(|step| step.call.word == Operation::Drop)
             .map(|step| (step.call.channel, step.call.handle))
             .collect();
         for step in &self.steps {
@@ -167,15 +168,15 @@ impl Plan {
         }
     }
 
-    fn class_for(&self, word: Word, actor: usize) -> Class {
+    fn class_for(&self, word: Operation, actor: usize) -> Class {
         match word {
-            Word::Drop => Class::Any,
+            Operation::Drop => Class::Any,
             _ => self.classes[actor],
         }
     }
 
     /// Returns the lane of a call that comes, if the journal has one.
-    pub(super) fn lane_of(&self, coming: &Coming) -> Option<u32> {
+    pub(super) fn lane_of(&self, coming: &ArrivingCall) -> Option<u32> {
         let class = self.class_for(coming.word, coming.actor.number() as usize);
         let key = (coming.channel, coming.handle, class);
         self.lanes.get(&key).copied()
@@ -219,7 +220,7 @@ impl Plan {
 
     /// Returns the names of the actors by number, `None` for those that nobody named.
     pub(super) fn actors(&self) -> Vec<Option<String>> {
-        let count = self.names.actors.last_key_value();
+        let count = self.names.actors.iter().next_back();
         let count = count.map_or(0, |(last, _)| *last as usize + 1);
         let mut names = vec![None; count.min(Actor::MOST)];
         for (name, actor) in &self.numbers {
@@ -237,13 +238,13 @@ impl Plan {
 }
 
 /// Whether a call, the one with this index on its channel, is among some entries of the channels.
-fn has(entries: &BTreeMap<u64, Vec<u64>>, call: &RunEntry, index: u32) -> bool {
+fn has(entries: &NumberMap<u64, Vec<u64>>, call: &RunEntry, index: u32) -> bool {
     let of_channel = entries.get(&u64::from(call.channel));
     of_channel.is_some_and(|entries| entries.binary_search(&u64::from(index)).is_ok())
 }
 
 /// Returns the class of an actor. The last number that there is may be that of several actors.
-fn class_of(actor: usize, names: &Names) -> Class {
+fn class_of(actor: usize, names: &Sidecar) -> Class {
     let number = actor as u64;
     let is_last = actor + 1 == Actor::MOST;
     match names.actors.get(&number) {

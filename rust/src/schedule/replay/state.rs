@@ -3,11 +3,11 @@
 use super::clock::{RunningClock, Time};
 use super::outcome;
 use super::plan::{NONE, Plan};
-use super::{Coming, Identity};
+use super::{ArrivingCall, Identity};
 use crate::channels::backend::Actor;
 use crate::channels::channel::CallSite;
 use crate::channels::turns::Ticket;
-use crate::run::word::Word;
+use crate::run::operation::Operation;
 use crate::schedule::explore::ThreadId;
 use std::collections::{BTreeMap, HashMap};
 use std::iter;
@@ -32,13 +32,18 @@ pub(super) enum Standing {
 /// A future that waits before the gate.
 pub(super) struct Waiter {
     pub(super) waker: Waker,
-    pub(super) coming: Coming,
+    pub(super) coming: ArrivingCall,
     pub(super) since: Time,
 }
 
 impl Waiter {
     /// The future of this call, which waits from now on, or has waited since it did so before.
-    pub(super) fn new(coming: Coming, waker: Waker, before: Option<&Waiter>, now: Time) -> Waiter {
+    pub(super) fn new(
+        coming: ArrivingCall,
+        waker: Waker,
+        before: Option<&Waiter>,
+        now: Time,
+    ) -> Waiter {
         Waiter {
             waker,
             coming,
@@ -78,7 +83,7 @@ pub(super) struct OfActor {
     /// At this position its polls aren't held back.
     pub(super) passes_at: Option<usize>,
     /// The last question that it asked of those which leave no entry.
-    pub(super) asked: Option<Coming>,
+    pub(super) asked: Option<ArrivingCall>,
     /// Where it made its last call that has a place.
     pub(super) called_at: CallSite,
 }
@@ -177,7 +182,7 @@ impl GateState {
     }
 
     /// Returns what a call is to the journal.
-    pub(super) fn standing(&self, plan: &Plan, lane: Option<u32>, word: Word) -> Standing {
+    pub(super) fn standing(&self, plan: &Plan, lane: Option<u32>, word: Operation) -> Standing {
         let Some(lane) = lane else {
             return Standing::Unknown;
         };
@@ -199,7 +204,7 @@ impl GateState {
     /// Returns what a closure that changes a watch is to the journal. Its own calls come before its
     /// entry, so it begins where the next call of its actor is the turn.
     pub(super) fn standing_to_modify(&self, plan: &Plan, lane: Option<u32>) -> Standing {
-        match self.standing(plan, lane, Word::Modify) {
+        match self.standing(plan, lane, Operation::Modify) {
             Standing::Later if self.is_next_of_actor(self.actor_of(plan, lane)) => Standing::Turn,
             other => other,
         }
@@ -223,13 +228,19 @@ impl GateState {
 
     /// Records who has used a handle, and on which thread. The first handle that several use who
     /// can't be told apart is noted.
-    pub(super) fn see(&mut self, plan: &Plan, lane: Option<u32>, coming: &Coming, user: &Identity) {
+    pub(super) fn see(
+        &mut self,
+        plan: &Plan,
+        lane: Option<u32>,
+        coming: &ArrivingCall,
+        user: &Identity,
+    ) {
         let of = &mut self.actors[coming.actor.number() as usize];
         of.called_at = coming.called_at.or(of.called_at);
         if plan.is_named(coming.actor) {
             of.thread = user.thread();
         }
-        if coming.word == Word::Drop {
+        if coming.word == Operation::Drop {
             return;
         }
         self.see_unnamed(user);
@@ -291,7 +302,7 @@ impl GateState {
         &mut self,
         plan: &Plan,
         lane: Option<u32>,
-        coming: &Coming,
+        coming: &ArrivingCall,
         waker: Waker,
     ) -> Option<Waker> {
         let Some(lane) = lane.filter(|_| self.shared.is_none() && !self.is_over) else {

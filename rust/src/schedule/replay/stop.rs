@@ -15,7 +15,7 @@ pub(crate) fn is_wanted() -> bool {
     env::var_os(STOP).is_some()
 }
 
-/// Returns the index of the call that the variable says, in a journal with so many calls.
+/// Returns the index of the call that the variable says, in a journal with `calls` calls.
 pub(super) fn index(text: Option<String>, calls: usize) -> io::Result<Option<usize>> {
     let Some(text) = text else {
         return Ok(None);

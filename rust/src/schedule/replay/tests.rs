@@ -12,13 +12,13 @@ mod tasks;
 
 use super::gate::Gate;
 use super::plan::Plan;
-use super::{Coming, helper};
+use super::{ArrivingCall, helper};
 use crate::channels::backend::Actor;
 use crate::channels::lock::lock;
 use crate::channels::turns::{OrderedChannel, Permit, TestEnd, Ticket, Turns};
 use crate::run::journal::Run;
-use crate::run::names::{Maker, Names};
-use crate::run::word::Word;
+use crate::run::operation::Operation;
+use crate::run::sidecar::{Maker, Sidecar};
 use std::path::Path;
 use std::sync::atomic::{AtomicUsize, Ordering};
 use std::sync::{Arc, Barrier, Mutex, mpsc};
@@ -57,7 +57,7 @@ const NAMES: &str = r#"{
 
 fn plan_of(journal: &str, names: &str) -> Plan {
     let run = Run::read(journal.as_bytes()).unwrap();
-    Plan::new(&run, Names::read(names).unwrap())
+    Plan::new(&run, Sidecar::read(names).unwrap())
 }
 
 fn gate_of(journal: &str, names: &str, patience: Duration) -> Arc<Gate> {
@@ -71,8 +71,8 @@ fn gate() -> Arc<Gate> {
     gate_of(JOURNAL, NAMES, PATIENT)
 }
 
-fn call(actor: usize, channel: u32, word: Word, handle: u32) -> Coming {
-    Coming {
+fn call(actor: usize, channel: u32, word: Operation, handle: u32) -> ArrivingCall {
+    ArrivingCall {
         channel,
         handle,
         word,
@@ -97,19 +97,19 @@ fn tell_made(permit: Option<Permit<'_>>, text: Option<&str>) {
     }
 }
 
-fn make(gate: &Arc<Gate>, coming: Coming) {
+fn make(gate: &Arc<Gate>, coming: ArrivingCall) {
     tell_made(ordered(gate).pass(coming, &|| false), None);
 }
 
 /// Makes the first calls of the journal.
 fn make_first(gate: &Arc<Gate>, count: usize) {
     let calls = [
-        call(CLERK, 0, Word::Send, 0),
-        call(AUDIT, 0, Word::Recv, 1),
-        call(CLERK, 1, Word::Modify, 0),
-        call(NOBODY, 0, Word::Send, 0),
-        call(AUDIT, 0, Word::TryRecv, 1),
-        call(CLERK, 0, Word::Drop, 0),
+        call(CLERK, 0, Operation::Send, 0),
+        call(AUDIT, 0, Operation::Recv, 1),
+        call(CLERK, 1, Operation::Modify, 0),
+        call(NOBODY, 0, Operation::Send, 0),
+        call(AUDIT, 0, Operation::TryRecv, 1),
+        call(CLERK, 0, Operation::Drop, 0),
     ];
     calls
         .into_iter()
@@ -153,7 +153,12 @@ fn told() -> (Arc<Told>, Waker, mpsc::Receiver<String>) {
     (told.clone(), Waker::from(told), woken)
 }
 
-fn poll(gate: &Arc<Gate>, coming: Coming, ticket: &mut Option<Ticket>, waker: &Waker) -> bool {
+fn poll(
+    gate: &Arc<Gate>,
+    coming: ArrivingCall,
+    ticket: &mut Option<Ticket>,
+    waker: &Waker,
+) -> bool {
     match ordered(gate).poll(coming, &|| false, ticket, &Context::from_waker(waker)) {
         Poll::Ready(permit) => {
             tell_made(permit, None);
@@ -172,7 +177,7 @@ fn calls_in_the_order_of_the_journal_pass_at_once() {
     assert!(replayed.is_in_order() && gate.entrance.is_over());
     assert_eq!(replayed.to_string(), "all 6 calls in the recorded order");
     // What comes later passes.
-    make(&gate, call(CLERK, 0, Word::Send, 0));
+    make(&gate, call(CLERK, 0, Operation::Send, 0));
     assert_eq!(gate.outcome(), replayed);
 }
 
@@ -184,14 +189,14 @@ fn a_thread_blocks_until_its_turn() {
     thread::scope(|scope| {
         let later = scope.spawn(|| {
             let channel = ordered(&gate);
-            let permit = channel.pass(call(NOBODY, 0, Word::Send, 0), &|| false);
+            let permit = channel.pass(call(NOBODY, 0, Operation::Send, 0), &|| false);
             lock(&made).push(3);
             tell_made(permit, None);
         });
         wait_for_blocked(&gate, 1);
         make_first(&gate, 2);
         let channel = ordered(&gate);
-        let permit = channel.pass(call(CLERK, 1, Word::Modify, 0), &|| false);
+        let permit = channel.pass(call(CLERK, 1, Operation::Modify, 0), &|| false);
         assert!(lock(&made).is_empty());
         lock(&made).push(2);
         tell_made(permit, None);
@@ -205,7 +210,7 @@ fn a_thread_blocks_until_its_turn() {
 #[cfg_attr(target_family = "wasm", ignore = "WebAssembly has no threads")]
 fn a_permit_that_is_not_used_is_given_back() {
     let gate = gate();
-    drop(ordered(&gate).pass(call(CLERK, 0, Word::Send, 0), &|| false));
+    drop(ordered(&gate).pass(call(CLERK, 0, Operation::Send, 0), &|| false));
     assert_eq!(gate.outcome().calls_in_order(), 0);
     make_first(&gate, 6);
     assert!(gate.outcome().is_in_order());
@@ -217,13 +222,13 @@ fn two_callers_of_one_lane_do_not_both_get_the_turn() {
     let gate = gate();
     make_first(&gate, 3);
     let channel = ordered(&gate);
-    let permit = channel.pass(call(NOBODY, 0, Word::Send, 0), &|| false);
+    let permit = channel.pass(call(NOBODY, 0, Operation::Send, 0), &|| false);
     thread::scope(|scope| {
-        let other = scope.spawn(|| make(&gate, call(NOBODY, 0, Word::Send, 0)));
+        let other = scope.spawn(|| make(&gate, call(NOBODY, 0, Operation::Send, 0)));
         wait_for_blocked(&gate, 1);
         tell_made(permit, None);
-        make(&gate, call(AUDIT, 0, Word::TryRecv, 1));
-        make(&gate, call(CLERK, 0, Word::Drop, 0));
+        make(&gate, call(AUDIT, 0, Operation::TryRecv, 1));
+        make(&gate, call(CLERK, 0, Operation::Drop, 0));
         // The journal has one such call. The other one passes at its end.
         other.join().unwrap();
     });
@@ -236,17 +241,17 @@ fn a_closure_that_changes_a_watch_begins_before_its_own_calls() {
     let journal = "ttd-journal 2\nbroadcast 4\nwatch 0\nsteps\n\
         1 1 0 try-recv 1 = empty\n2 0 0 send 0 0 = sent 1\n3 0 1 modify 0 1 yes = told yes\nend\n";
     let gate = gate_of(journal, NAMES, PATIENT);
-    let modify = call(CLERK, 1, Word::Modify, 0);
+    let modify = call(CLERK, 1, Operation::Modify, 0);
     thread::scope(|scope| {
         let clerk = scope.spawn(|| {
             gate.pass_to_modify(modify);
             let begun_at = gate.outcome().calls_in_order();
-            make(&gate, call(CLERK, 0, Word::Send, 0));
+            make(&gate, call(CLERK, 0, Operation::Send, 0));
             make(&gate, modify);
             begun_at
         });
         wait_for_blocked(&gate, 1);
-        make(&gate, call(AUDIT, 0, Word::TryRecv, 1));
+        make(&gate, call(AUDIT, 0, Operation::TryRecv, 1));
         assert_eq!(clerk.join().unwrap(), 1);
     });
     assert!(gate.outcome().is_in_order());
@@ -257,7 +262,7 @@ fn a_closure_that_changes_a_watch_begins_before_its_own_calls() {
 fn a_handle_is_dropped_by_whoever_has_it_last() {
     let gate = gate();
     make_first(&gate, 5);
-    make(&gate, call(NOBODY, 0, Word::Drop, 0));
+    make(&gate, call(NOBODY, 0, Operation::Drop, 0));
     assert!(gate.outcome().is_in_order());
 }
 
@@ -272,7 +277,7 @@ fn callers_who_share_a_handle_without_a_name_are_not_told_apart() {
     thread::scope(|scope| {
         for _ in 0..2 {
             scope.spawn(|| {
-                make(&gate, call(NOBODY, 0, Word::Send, 0));
+                make(&gate, call(NOBODY, 0, Operation::Send, 0));
                 both.wait();
             });
         }
@@ -293,9 +298,9 @@ fn a_caller_without_a_name_waits_for_the_call_of_another_one() {
         1 2 0 send 0 0 = sent 1\n2 3 0 receiver-count 0 = count 1\nend\n";
     let gate = gate_of(journal, NAMES, PATIENT);
     thread::scope(|scope| {
-        scope.spawn(|| make(&gate, call(NOBODY, 0, Word::ReceiverCount, 0)));
+        scope.spawn(|| make(&gate, call(NOBODY, 0, Operation::ReceiverCount, 0)));
         wait_for_blocked(&gate, 1);
-        make(&gate, call(NOBODY, 0, Word::Send, 0));
+        make(&gate, call(NOBODY, 0, Operation::Send, 0));
     });
     assert_eq!(gate.outcome().calls_in_order(), 2);
 }
@@ -305,14 +310,14 @@ fn a_caller_without_a_name_waits_for_the_call_of_another_one() {
 fn a_value_with_another_text_is_told() {
     let gate = gate();
     let channel = ordered(&gate);
-    let permit = channel.pass(call(CLERK, 0, Word::Send, 0), &|| false);
+    let permit = channel.pass(call(CLERK, 0, Operation::Send, 0), &|| false);
     tell_made(permit, Some("order 71"));
-    make(&gate, call(AUDIT, 0, Word::Recv, 1));
-    make(&gate, call(CLERK, 1, Word::Modify, 0));
-    let permit = channel.pass(call(NOBODY, 0, Word::Send, 0), &|| false);
+    make(&gate, call(AUDIT, 0, Operation::Recv, 1));
+    make(&gate, call(CLERK, 1, Operation::Modify, 0));
+    let permit = channel.pass(call(NOBODY, 0, Operation::Send, 0), &|| false);
     tell_made(permit, Some("order 73"));
-    make(&gate, call(AUDIT, 0, Word::TryRecv, 1));
-    make(&gate, call(CLERK, 0, Word::Drop, 0));
+    make(&gate, call(AUDIT, 0, Operation::TryRecv, 1));
+    make(&gate, call(CLERK, 0, Operation::Drop, 0));
     let replayed = gate.outcome();
     assert!(replayed.is_in_order());
     assert_eq!(
@@ -329,10 +334,10 @@ fn a_call_that_waits_has_a_mark() {
         3 0 0 receiver-count 0 = count 0\n4 1 1 update 1 = value 0\nend\n";
     let names = r#"{"actors": {"0": "clerk", "1": "audit"}, "waited": {"0": [2], "1": [0]}}"#;
     let gate = gate_of(journal, names, PATIENT);
-    make(&gate, call(CLERK, 0, Word::ReceiverCount, 0));
-    make(&gate, call(AUDIT, 0, Word::Drop, 1));
-    make(&gate, call(CLERK, 0, Word::NoReceiver, 0));
-    make(&gate, call(AUDIT, 1, Word::WaitFor, 1));
+    make(&gate, call(CLERK, 0, Operation::ReceiverCount, 0));
+    make(&gate, call(AUDIT, 0, Operation::Drop, 1));
+    make(&gate, call(CLERK, 0, Operation::NoReceiver, 0));
+    make(&gate, call(AUDIT, 1, Operation::WaitFor, 1));
     assert!(gate.outcome().is_in_order());
 }
 
@@ -366,10 +371,10 @@ fn the_line_at_the_end_says_how_the_test_ended() {
         at_end(TestEnd::Passed),
         format!("{before}; the test passed")
     );
-    make(&gate, call(CLERK, 1, Word::Modify, 0));
-    make(&gate, call(NOBODY, 0, Word::Send, 0));
-    make(&gate, call(AUDIT, 0, Word::TryRecv, 1));
-    make(&gate, call(CLERK, 0, Word::Drop, 0));
+    make(&gate, call(CLERK, 1, Operation::Modify, 0));
+    make(&gate, call(NOBODY, 0, Operation::Send, 0));
+    make(&gate, call(AUDIT, 0, Operation::TryRecv, 1));
+    make(&gate, call(CLERK, 0, Operation::Drop, 0));
     let all = "all 6 calls in the recorded order";
     assert_eq!(
         at_end(TestEnd::Failed(&[])),

@@ -34,19 +34,19 @@ impl Sent {
         self.0.fetch_add(1, Ordering::SeqCst);
     }
 
-    /// Whether there are so many.
+    /// Whether there are at least `count`.
     pub fn is(&self, count: u32) -> bool {
         self.0.load(Ordering::SeqCst) >= count
     }
 
-    /// Waits until there are so many.
+    /// Waits until there are at least `count`.
     pub async fn reaches(&self, count: u32) {
         while !self.is(count) {
             wait(1).await;
         }
     }
 
-    /// Computes until there are so many, without an await.
+    /// Computes until there are at least `count`, without an await.
     pub fn compute_until(&self, count: u32) {
         while !self.is(count) {
             std::hint::spin_loop();

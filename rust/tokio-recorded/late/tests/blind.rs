@@ -280,11 +280,15 @@ async fn blocked_worker() {
             own.is_busy_after_poll();
         }
     }));
+    let (begins, has_begun) = oneshot::channel();
     tokio::spawn(named("import", async move {
+        // The worker polls nobody else before this waits.
+        begins.send(()).unwrap();
         blocks.busy().await;
         blocks.is_busy_now();
         blocks.block_until_overwritten();
     }));
+    has_begun.await.unwrap();
     let thread = feed_on_thread(orders, signals.clone());
     audited(audit, &signals).await;
     thread.join().unwrap();

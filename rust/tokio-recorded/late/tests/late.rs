@@ -19,7 +19,7 @@ async fn feed(orders: Sender<u32>, sent: Sent) {
     }
 }
 
-/// The same on a thread, which waits after the first order until so many tasks compute.
+/// The same on a thread, which waits after the first order until `tasks` tasks compute.
 fn feed_on_thread(
     orders: Sender<u32>,
     sent: Sent,
@@ -30,7 +30,8 @@ fn feed_on_thread(
         for id in 0..12 {
             let _ = orders.send(id);
             sent.add();
-            std::thread::sleep(Duration::from_millis(1));
+            // So they compute for longer than a busy machine stops a thread.
+            std::thread::sleep(Duration::from_millis(10));
             while !computing.is(tasks) {
                 std::thread::yield_now();
             }

@@ -140,7 +140,7 @@ async fn a_name_says_which_one_of_its_place_it_is_and_who_spawns_it() {
     assert_actors(&recorder, &wanted);
 }
 
-/// Spawns a task in a task, so many in each other. The innermost sends.
+/// Spawns a task in a task, to this `depth`. The innermost sends.
 fn nested(bus: broadcast::Sender<u32>, depth: u32) -> Pin<Box<dyn Future<Output = ()> + Send>> {
     Box::pin(async move {
         match depth {

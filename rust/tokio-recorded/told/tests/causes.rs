@@ -1,6 +1,6 @@
 //! Tests that fail. Above each stands why, as whoever planted it knows it, and then lines that its
-//! report has to have, in this order. `@NAME` stands for the line of a source whose end is
-//! `// @NAME`, and `N ms` for any time.
+//! report has to have, in this order, and after `!` what none of its lines may have. `@NAME` stands
+//! for the line of a source whose end is `// @NAME`, and `N ms` for any time.
 
 use std::panic::catch_unwind;
 use std::time::Duration;
@@ -408,4 +408,95 @@ fn a_send_reaches_one() {
     name!(recorder, &audit, "audit");
     let _ = orders.subscribe(); // @ignored
     assert_eq!(orders.send(71).unwrap(), 2); // @reached
+}
+
+// Each worker was told of the shutdown by `changed`, and ended. Nobody has to look at `()`.
+// | failed: a_signal_is_heard at @signal: the till is short
+// | yovanelum: no value was lost in .* calls on 1 channel
+// ! error:
+// ! never
+#[tokio::test]
+async fn a_signal_is_heard() {
+    let _recorder = Recorder::for_test("a_signal_is_heard");
+    let (shutdown, reader) = watch::channel(());
+    let workers = [1, 2, 3].map(|number| {
+        let mut reader = reader.clone();
+        let work = async move { reader.changed().await.unwrap() };
+        tokio::spawn(named(&format!("worker {number}"), work))
+    });
+    drop(reader);
+    shutdown.send(()).unwrap();
+    for worker in workers {
+        worker.await.unwrap();
+    }
+    panic!("the till is short"); // @signal
+}
+
+// The audit's task was aborted before it could be told that the channel closed.
+// | failed: an_aborted_task_is_told_nothing at @aborted: the till is short
+// ! error:
+#[tokio::test]
+async fn an_aborted_task_is_told_nothing() {
+    let _recorder = Recorder::for_test("an_aborted_task_is_told_nothing");
+    let (orders, mut audit) = broadcast::channel::<u32>(4);
+    let audit = tokio::spawn(named("audit", async move { audit.recv().await }));
+    tokio::task::yield_now().await;
+    drop(orders);
+    audit.abort();
+    assert!(audit.await.unwrap_err().is_cancelled());
+    panic!("the till is short"); // @aborted
+}
+
+// The audit has an order to read before it can be told that the channel closed.
+// | failed: a_close_is_not_reached_yet at @unread: the till is short
+// | warning: `orders` closed, and its receiver has not read that far
+// ! error:
+// ! not told
+#[test]
+fn a_close_is_not_reached_yet() {
+    let recorder = Recorder::for_test("a_close_is_not_reached_yet");
+    let (orders, mut audit) = broadcast::channel(4);
+    name!(recorder, &orders, "orders");
+    name!(recorder, &audit, "audit");
+    orders.send(71).unwrap();
+    orders.send(72).unwrap();
+    drop(orders);
+    audit.try_recv().unwrap();
+    panic!("the till is short"); // @unread
+}
+
+// There was no receiver when the orders were sent.
+// | failed: orders_reach_nobody at @alone: the till is short.*
+// | error: two sends of `orders` reached nobody.*
+// ! no value was lost
+#[test]
+fn orders_reach_nobody() {
+    let recorder = Recorder::for_test("orders_reach_nobody");
+    let (orders, _) = broadcast::channel(4);
+    name!(recorder, &orders, "orders");
+    for id in [71, 72] {
+        let _ = orders.send(id);
+    }
+    panic!("the till is short"); // @alone
+}
+
+// The monitor goes on after its gap, and nobody reads the log. The gap of the audit fails the test.
+// | failed: a_gap_was_handled at @the gap: called `Result::unwrap()` on an `Err` value: Lagged(1); call 8 was orders.try_recv(): Lagged(1)
+// | error: `audit` lost 1 of 3 values of `orders` (capacity 2)
+// ! error: `monitor`
+// ! error: `log`
+#[test]
+fn a_gap_was_handled() {
+    let recorder = Recorder::for_test("a_gap_was_handled");
+    let (orders, log) = broadcast::channel(2);
+    let (mut monitor, mut audit) = (orders.subscribe(), orders.subscribe());
+    name!(recorder, &orders, "orders");
+    name!(recorder, &log, "log");
+    name!(recorder, &monitor, "monitor");
+    name!(recorder, &audit, "audit");
+    for id in [71, 72, 73] {
+        orders.send(id).unwrap();
+    }
+    while let Err(TryRecvError::Lagged(_)) = monitor.try_recv() {}
+    audit.try_recv().unwrap(); // @the gap
 }

@@ -5,6 +5,7 @@
 //! is linked. `clap` allocates without an error: refused memory ends the process.
 
 use super::alloc::{AllocError, Global};
+use super::refused::without_refusals;
 use super::string::String;
 use error::ErrorKind;
 use std::fmt;
@@ -34,11 +35,14 @@ pub struct Arg<'a>(::clap::Arg, PhantomData<&'a str>);
 impl<'a> Arg<'a> {
     /// The port's clauses: `result.id ≡ id`, and it has no rule.
     pub fn new(_: Global, id: &'a str) -> Arg<'a> {
-        Arg(::clap::Arg::new(id.to_owned()), PhantomData)
+        Arg(
+            without_refusals(|| ::clap::Arg::new(id.to_owned())),
+            PhantomData,
+        )
     }
 
     fn with(self, change: impl FnOnce(::clap::Arg) -> ::clap::Arg) -> Arg<'a> {
-        Arg(change(self.0), PhantomData)
+        Arg(without_refusals(|| change(self.0)), PhantomData)
     }
 
     /// The port's clause: `result ≡ record S { required = required }`.
@@ -69,11 +73,12 @@ pub struct Command<'a>(::clap::Command, PhantomData<&'a str>);
 impl<'a> Command<'a> {
     /// The port's clause: `(fields_of result).name ≡ name`.
     pub fn new(_: Global, name: &'a str) -> Command<'a> {
-        Command(::clap::Command::new(name.to_owned()), PhantomData)
+        let made = without_refusals(|| ::clap::Command::new(name.to_owned()));
+        Command(made, PhantomData)
     }
 
     fn with(self, change: impl FnOnce(::clap::Command) -> ::clap::Command) -> Command<'a> {
-        Command(change(self.0), PhantomData)
+        Command(without_refusals(|| change(self.0)), PhantomData)
     }
 
     /// The port's clause: `fields_of result ≡ record (fields_of S) { about = Some text }`.
@@ -106,7 +111,7 @@ impl<'a> Command<'a> {
     /// accepts and of what kind its errors are. That this is what `clap` does is tested.
     pub fn try_get_matches_from_mut(&mut self, words: &[String]) -> Result<ArgMatches, Error> {
         let words = words.iter().map(|word| word.as_str());
-        match self.0.try_get_matches_from_mut(words) {
+        match without_refusals(|| self.0.try_get_matches_from_mut(words)) {
             Ok(matches) => Ok(ArgMatches(matches)),
             Err(error) => Err(Error(error)),
         }
@@ -115,7 +120,7 @@ impl<'a> Command<'a> {
     /// Returns an error with this text. The port has no clause of the text.
     pub fn error(&mut self, _: ErrorKind, text: &str) -> Result<Error, AllocError> {
         let kind = ::clap::error::ErrorKind::UnknownArgument;
-        Ok(Error(self.0.error(kind, text)))
+        Ok(Error(without_refusals(|| self.0.error(kind, text))))
     }
 }
 
@@ -140,6 +145,6 @@ impl Error {
 impl fmt::Display for Error {
     /// Writes the text, without colours.
     fn fmt(&self, f: &mut fmt::Formatter<'_>) -> fmt::Result {
-        self.0.fmt(f)
+        without_refusals(|| self.0.fmt(f))
     }
 }

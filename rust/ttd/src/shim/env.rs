@@ -1,6 +1,7 @@
 //! The words of the command line.
 
 use super::alloc::{AllocError, Global};
+use super::refused::without_refusals;
 use super::rt::Env;
 use super::string::String;
 use super::vec::Vec;
@@ -15,7 +16,7 @@ pub struct Args(Vec<String>);
 /// Rattle's has no clause. A comment there says that a word that isn't UTF-8 is an error, which has
 /// the kind `InvalidData`. Refused memory has the kind `OutOfMemory`.
 pub fn args<R: Env>(_: &R) -> io::Result<Args> {
-    let given = std::env::args_os();
+    let given = without_refusals(std::env::args_os);
     let mut words = Vec::with_capacity(Global, given.len())?;
     for word in given {
         match word.into_string() {

@@ -3,6 +3,7 @@
 //! The sources name what they need of it by these traits, as in Rattle.
 
 use super::alloc::Global;
+use super::refused::without_refusals;
 use super::standard_streams;
 use super::sync::Wait;
 use super::thread::Threads;
@@ -90,7 +91,7 @@ impl Read for StandardInput {
         if bytes.is_empty() {
             return standard_streams::check_is_no_folder().map(|()| 0);
         }
-        io::stdin().lock().read(bytes)
+        without_refusals(|| io::stdin().lock().read(bytes))
     }
 }
 
@@ -102,10 +103,10 @@ impl Write for StandardOutput {
     /// Rattle's clause: `Ok(n)` adds the first `n` bytes to the contents, and an error adds none.
     fn write(&mut self, bytes: &[u8]) -> io::Result<usize> {
         standard_streams::check_output()?;
-        io::stdout().write(bytes)
+        without_refusals(|| io::stdout().write(bytes))
     }
 
     fn flush(&mut self) -> io::Result<()> {
-        io::stdout().flush()
+        without_refusals(|| io::stdout().flush())
     }
 }

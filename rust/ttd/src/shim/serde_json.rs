@@ -4,6 +4,7 @@
 //! In a clause `view` is the value as contracts see it.
 
 use super::alloc::{AllocError, Global};
+use super::refused::without_refusals;
 use super::string::String;
 use super::vec::Vec;
 use std::io;
@@ -39,7 +40,8 @@ pub fn put(
     key: &str,
     value: Value,
 ) -> Result<(), AllocError> {
-    map.0.insert(copy(key)?, value.0);
+    let key = copy(key)?;
+    without_refusals(|| map.0.insert(key, value.0));
     Ok(())
 }
 

@@ -5,6 +5,7 @@
 //! an `Arc`, whose allocation can't fail without ending the process. Neither can those that Rust
 //! makes for each thread itself.
 
+use super::refused::{taking_refusals, without_refusals};
 use std::any::Any;
 use std::panic::{AssertUnwindSafe, catch_unwind, resume_unwind};
 use std::sync::{Arc, Condvar, Mutex, PoisonError};
@@ -45,13 +46,20 @@ impl<'scope> Scope<'scope, '_> {
         &self,
         f: F,
     ) -> Result<JoinHandle<T>, SpawnError> {
+        without_refusals(|| self.start(f))
+    }
+
+    fn start<T: Send + 'scope, F: FnOnce() -> T + Send + 'scope>(
+        &self,
+        f: F,
+    ) -> Result<JoinHandle<T>, SpawnError> {
         let place = Arc::new(Place {
             result: Mutex::new(None),
             is_there: Condvar::new(),
         });
         let own = place.clone();
         let started = std::thread::Builder::new().spawn_scoped(self.0, move || {
-            let result = catch_unwind(AssertUnwindSafe(f));
+            let result = catch_unwind(AssertUnwindSafe(|| taking_refusals(f)));
             *own.result.lock().unwrap_or_else(PoisonError::into_inner) = Some(result);
             own.is_there.notify_all();
         });
@@ -88,5 +96,5 @@ pub fn scope<'env, T, R: Threads>(
     _: &R,
     f: impl for<'scope> FnOnce(Scope<'scope, 'env>) -> T,
 ) -> T {
-    std::thread::scope(|scope| f(Scope(scope)))
+    without_refusals(|| std::thread::scope(|scope| taking_refusals(|| f(Scope(scope)))))
 }

@@ -43,7 +43,7 @@ pub fn ends<T, E>(test: &str, call: impl FnOnce() -> Result<T, E>) -> Vec<End> {
     }
 }
 
-/// Runs a test again, in which the request after so many is refused.
+/// Runs a test again, in which the request after `allowed` others is refused.
 fn run_again(test: &str, allowed: usize) -> Output {
     Command::new(env::current_exe().unwrap())
         .args([test, "--exact", "--test-threads=1"])

@@ -24,7 +24,7 @@ fn process_bytes() -> u64 {
     pages.parse::<u64>().unwrap() * PAGE
 }
 
-/// Makes something of so many parts, and measures how many bytes each of them takes.
+/// Makes something of `parts` parts, and measures how many bytes each of them takes.
 fn bytes_each<T>(parts: u64, make: impl FnOnce() -> T) -> u64 {
     let before = process_bytes();
     let _made = make();

@@ -99,7 +99,7 @@ pub fn watch_handles(size: u64) -> bool {
     }
 }
 
-/// Opens a world of so many channels.
+/// Opens a world of `size` channels.
 pub fn worlds(size: u64) -> bool {
     let specs = vec![Spec::Watch(7u64); size as usize];
     let opened: Result<World<u64>, OpenFault> = open(Global, &specs);

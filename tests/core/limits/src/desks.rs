@@ -13,7 +13,7 @@ const SPECS: [Spec<u64>; 64] = [Spec::Broadcast(2); 64];
 
 const COUNT: ChanCall<u64> = ChanCall::B(BCall::ReceiverCount(0));
 
-/// Whether each of so many actors has sent one value, on the last channel.
+/// Whether each of `actors` actors has sent one value, on the last channel.
 fn has_each(run: &Run<u64>, actors: u64) -> bool {
     let calls = run
         .entries()

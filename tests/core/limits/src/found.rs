@@ -50,7 +50,7 @@ pub fn starts(size: u64) -> bool {
     firsts.eq((0..size).map(|number| (number, 0)))
 }
 
-/// So many receivers are created beside receiver 1.
+/// `size` receivers are created beside receiver 1.
 fn created(size: u64) -> impl Iterator<Item = (ChanCall<u64>, ChanReply<u64>)> {
     (0..size).map(|number| of(BCall::Subscribe(0), BReply::New(number as u32 + 2)))
 }
@@ -74,7 +74,7 @@ pub fn totals(size: u64) -> bool {
     totals_of(Global, &closed(size)).unwrap().len() as u64 == size + 1
 }
 
-/// Each of so many receivers receives one value.
+/// Receiver 1 and `size` others receive one value each.
 pub fn receipts(size: u64) -> bool {
     let receives =
         (1..size + 2).map(|receiver| of(BCall::TryRecv(receiver as u32), BReply::Value(7)));

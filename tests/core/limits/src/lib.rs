@@ -1,7 +1,8 @@
 //! Each public function that has a limit, once at it and once one below, where it does all that is asked; and once above, where it says that
 //! this is too much. A function without a limit of its own is at the greatest that it can be given.
 //!
-//! What takes long at its limit is run there where that is asked for, and else at a part of it.
+//! What takes long at its limit is run there where that is asked for, and else at a part of it. Each function is also tried at numbers below its
+//! limit that are round, or beside such a one, and at twice these: a body that gives up at one of them fails.
 //!
 //! `covered` says for each function that compares something with a limit which row it is, so that none is without one.
 //!
@@ -21,6 +22,8 @@ use std::fs;
 /// A function, its limit, and how long it may take there.
 struct Limit {
     function: &'static str,
+    /// The least size at which the row has what it looks at.
+    least: u64,
     most: u64,
     /// How many seconds of a processor one run may take: several times as many as it took where others ran beside it.
     seconds: u64,
@@ -64,9 +67,20 @@ fn takes_part(limit: &Limit) {
     assert!((limit.takes)(size), "{} refuses {size}", limit.function);
 }
 
-/// The table. After `to` more is refused, and after `of` no more can be asked for. Rows that are `slow` run where they are asked for.
+/// Numbers that are round to programmers or to people, or beside such a one.
+const ROUND: [u64; 9] = [1, 2, 63, 64, 65, 100, 101, 1_000, 65_536];
+
+/// Tries a function at round sizes up to its limit, and at twice as much.
+fn takes_round(limit: &Limit) {
+    let sizes = ROUND.into_iter().flat_map(|size| [size, 2 * size]);
+    for size in sizes.filter(|size| (limit.least..=limit.most).contains(size)) {
+        assert!((limit.takes)(size), "{} refuses {size}", limit.function);
+    }
+}
+
+/// The table. After `to` more is refused, and after `of` no more can be asked for. After `from` is the least size that a row has. Rows that are `slow` run where they are asked for.
 macro_rules! limits {
-    ($($function:literal $word:ident $most:literal, $seconds:literal s $($slow:ident)?: $part:ident::$name:ident;)+) => {
+    ($($function:literal $word:ident $most:literal $(from $least:literal)?, $seconds:literal s $($slow:ident)?: $part:ident::$name:ident;)+) => {
         /// The names of the rows.
         const ROWS: &[&str] = &[$($function),+];
 
@@ -75,6 +89,7 @@ macro_rules! limits {
                 fn limit() -> super::Limit {
                     super::Limit {
                         function: $function,
+                        least: [1 $(, $least)?].into_iter().max().unwrap(),
                         most: $most,
                         seconds: $seconds,
                         takes: super::$part::$name,
@@ -86,6 +101,11 @@ macro_rules! limits {
                 $(#[ignore = "tests/core/test slow runs it"] #[doc = stringify!($slow)])?
                 fn at_its_limit() {
                     super::holds(&limit());
+                }
+
+                #[test]
+                fn at_round_sizes() {
+                    super::takes_round(&limit());
                 }
 
                 $(
@@ -103,14 +123,14 @@ macro_rules! limits {
 limits! {
     "open_channel, capacity" to 65_536, 2 s: channels::capacity;
     "Broadcast, values of one receiver" of 65_536, 2 s: channels::unread;
-    "Broadcast, handles" to 65_536, 2 s: channels::broadcast_handles;
-    "Watch, handles" to 65_536, 2 s: channels::watch_handles;
+    "Broadcast, handles" to 65_536 from 3, 2 s: channels::broadcast_handles;
+    "Watch, handles" to 65_536 from 3, 2 s: channels::watch_handles;
     "open, channels" to 64, 2 s: channels::worlds;
     "Book::take" to 1_048_576, 2 s slow: recorded::book;
     "Ledger::take, entries_of" to 1_048_576, 4 s slow: recorded::ledger;
     "Book::take, stamps" to 4_611_686_018_427_387_904, 2 s: recorded::stamps;
     "RecentCalls::take, stamps" to 2_305_843_009_213_693_952, 2 s: recorded::recent_stamps;
-    "RecentCalls::open, a chunk" of 524_288, 4 s slow: recorded::recent_chunk;
+    "RecentCalls::open, a chunk" of 524_288 from 2, 4 s slow: recorded::recent_chunk;
     "RunDraft::push, actors" to 64, 2 s: recorded::draft_actors;
     "RunDraft::push, stamps" to 4_611_686_018_427_387_904, 2 s: recorded::draft_stamps;
     "RunDraft::push" to 1_048_576, 2 s slow: recorded::draft;
@@ -119,12 +139,12 @@ limits! {
     "merge_calls" of 1_048_576, 2 s slow: recorded::merged_calls;
     "Recording::call" to 1_048_576, 2 s slow: recorded::recording;
     "Recording::call, after its end" of 2_097_152, 2 s slow: recorded::unrecorded;
-    "Lead::play" to 1_048_576, 8 s slow: recorded::window;
+    "Lead::play" to 1_048_576 from 1_026, 8 s slow: recorded::window;
     "Flight::of, stamps" to 2_305_843_009_213_693_952, 2 s: recorded::flight_stamps;
-    "Lead::play, stamps" to 4_611_686_018_427_387_904, 2 s: recorded::window_stamps;
-    "Kept::lead, handles" to 65_534, 2 s: recorded::window_handles;
-    "Kept::lead, handles of the window" to 65_535, 2 s: recorded::window_creates;
-    "Kept::lead, sends" to 1_048_576, 4 s slow: recorded::lead_sends;
+    "Lead::play, stamps" to 4_611_686_018_427_387_904 from 2_305_843_009_213_693_953, 2 s: recorded::window_stamps;
+    "Kept::lead, handles" to 65_534 from 2, 2 s: recorded::window_handles;
+    "Kept::lead, handles of the window" to 65_535 from 5, 2 s: recorded::window_creates;
+    "Kept::lead, sends" to 1_048_576 from 2, 4 s slow: recorded::lead_sends;
     "Cut::add" to 64, 2 s: recorded::cut_channels;
     "Cut::run, RunReader::read" of 1_048_576, 8 s slow: recorded::cut_calls;
     "Desk::open, actors" to 64, 2 s: desks::actors;
@@ -161,6 +181,6 @@ limits! {
     "values_of, values_between, values" of 1_048_576, 4 s slow: found::values;
     "traffic_of, values" of 1_048_576, 4 s slow: found::traffic;
     "peaks_of, stretches" of 1_048_576, 4 s slow: found::peaks;
-    "Findings::read" of 1_048_576, 8 s slow: found::findings;
+    "Findings::read" of 1_048_576 from 3, 8 s slow: found::findings;
     "HitIndex::build" of 1_048_576, 3 s slow: found::hits;
 }

@@ -32,7 +32,7 @@ fn is_taken<T>(taken: Result<T, TakeFault>) -> bool {
     }
 }
 
-/// A book of so many sends, or of as many as it takes.
+/// A book of `size` sends, or of as many as it takes.
 fn filled(size: u64) -> (Book<Chan<u64>>, bool) {
     let mut book = Book::open(Global, channel(TWO[0])).unwrap();
     for value in 1..size {
@@ -66,7 +66,7 @@ pub fn ledger(size: u64) -> bool {
     entries.iter().zip(book.entries()).all(same)
 }
 
-/// A run of so many sends on the first of two channels, and one on the second.
+/// A run of `size` sends on the first of two channels, and one on the second.
 pub fn run_of(size: u64) -> Result<Run<u64>, PushFault> {
     let mut draft = RunDraft::open(Global, &TWO).unwrap();
     let on = |channel, value| RowCall {
@@ -90,7 +90,7 @@ pub fn draft(size: u64) -> bool {
     }
 }
 
-/// Whether this is the run of so many sends and one more, in the order of stamps.
+/// Whether this is the run of `size` sends and one more, in the order of stamps.
 fn is_run(run: Result<Run<u64>, MergeFault>, size: u64) -> bool {
     let Ok(run) = run else {
         return false;
@@ -129,7 +129,7 @@ pub fn merged_calls(size: u64) -> bool {
     is_run(merge_calls(Global, specs(), &journals), size)
 }
 
-/// A recording of so many sends, or of as many as it takes.
+/// A recording of `size` sends, or of as many as it takes.
 fn recording_of(size: u64) -> (Recording, bool) {
     let mut recording = Recording::open(Global, TWO[0]).unwrap();
     for value in 1..size {
@@ -237,7 +237,7 @@ pub fn merged_channels(size: u64) -> bool {
     (run.len(), run.entries().last().unwrap().actor) == (size, size as u32 - 1)
 }
 
-/// A window of so many entries: the lead of a broadcast that retains 1,024 values and has a receiver that lags, and the last sends.
+/// A window of `size` entries: the lead of a broadcast that retains 1,024 values and has a receiver that lags, and the last sends.
 pub fn window(size: u64) -> bool {
     const LEAD: u64 = 1_025;
     let chunk = 524_288;
@@ -259,7 +259,7 @@ pub fn window(size: u64) -> bool {
     }
 }
 
-/// The calls of a watch by which it has so many handles: it opens with two.
+/// The calls of a watch by which it has `handles` handles: it opens with two.
 fn kept_of(handles: u64) -> Kept {
     let mut flight = Flight::open(Global, Spec::Watch(0), 524_288).unwrap();
     for made in 2..handles {
@@ -270,7 +270,7 @@ fn kept_of(handles: u64) -> Kept {
     flight.kept(Global).unwrap()
 }
 
-/// A window of a channel with so many handles. Two more are for those that a channel opens with.
+/// A window of a channel with `size` handles. Two more are for those that a channel opens with.
 pub fn window_handles(size: u64) -> bool {
     let mut kept = kept_of(size);
     kept.skip(Global, kept.len()).unwrap();
@@ -283,14 +283,14 @@ pub fn window_handles(size: u64) -> bool {
     }
 }
 
-/// A window of a channel that has created so many handles, half of them in the window. The lead creates one more.
+/// A window of a channel that has created `size` handles, half of them in the window. The lead creates one more.
 pub fn window_creates(size: u64) -> bool {
-    const BEFORE: u64 = 32_768;
+    let before = size.div_ceil(2);
     let mut kept = kept_of(size);
-    kept.skip(Global, BEFORE - 2).unwrap();
+    kept.skip(Global, before - 2).unwrap();
     match kept.lead(Global, 1, 0) {
         Ok(lead) => {
-            let window = lead.play(BEFORE + 3).unwrap();
+            let window = lead.play(before + 3).unwrap();
             window.number(size as u32 - 1) == Some(size as u32)
         }
         Err(fault) => {
@@ -300,7 +300,7 @@ pub fn window_creates(size: u64) -> bool {
     }
 }
 
-/// A lead of so many sends: the receiver has received none of them, and the one call of the window asks it.
+/// A lead of `size` sends: the receiver has received none of them, and the one call of the window asks it.
 pub fn lead_sends(size: u64) -> bool {
     let mut flight = Flight::open(Global, Spec::Broadcast(1), 524_288).unwrap();
     for value in 1..=size {

@@ -34,7 +34,7 @@ pub fn steps(size: u64) -> bool {
     (run.len(), waits) == (size, None)
 }
 
-/// The text of a run of so many sends, written without the crates.
+/// The text of a run of `size` sends, written without the crates.
 fn text_of(size: u64) -> String {
     let mut text = "ttd-journal 2\nbroadcast 2\nsteps\n".to_string();
     for stamp in 1..=size {
@@ -176,7 +176,7 @@ pub fn debug_indexes(size: u64) -> bool {
     output.lines().count() as u64 == size + 1 && lines.all(|line| line == first)
 }
 
-/// A session whose script has a comment of so many bytes.
+/// A session whose script has a comment of `size` bytes.
 pub fn session_line(size: u64) -> bool {
     let script = format!("broadcast 1\n#{}\n", "x".repeat(size as usize - 1));
     let mut output = Vec::new(Global);
@@ -189,7 +189,7 @@ pub fn session_line(size: u64) -> bool {
     }
 }
 
-/// So many searches over a long run, each past all its entries, for two conditions in turn. Both are indexed: without an index each
+/// `size` searches over a long run, each past all its entries, for two conditions in turn. Both are indexed: without an index each
 /// search looks at half a million entries.
 pub fn debug_searches(size: u64) -> bool {
     const LONG: u64 = 500_000;

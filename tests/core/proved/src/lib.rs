@@ -12,6 +12,8 @@
 
 #[path = "../../../../rust/src/core/large_pages.rs"]
 mod large_pages;
+#[path = "../../../../rust/ttd/src/refused.rs"]
+mod refused;
 #[path = "../../../../rust/ttd/src/standard_streams.rs"]
 mod standard_streams;
 

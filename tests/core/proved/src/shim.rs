@@ -22,6 +22,8 @@ mod casts;
 pub mod fallible;
 #[path = "../../../../rust/src/core/shim/itoa.rs"]
 pub mod itoa;
+#[path = "../../../../rust/src/core/shim/collections.rs"]
+mod maps;
 #[path = "../../../../rust/src/core/shim/memchr.rs"]
 pub mod memchr;
 #[path = "../../../../rust/src/core/shim/slices.rs"]
@@ -46,7 +48,7 @@ pub mod sync;
 #[path = "../../../../rust/ttd/src/shim/thread.rs"]
 pub mod thread;
 
-use crate::{large_pages, standard_streams};
+use crate::{large_pages, refused, standard_streams};
 
 pub use boxed::Box;
 pub use casts::saturated;
@@ -57,4 +59,9 @@ pub use string::String;
 pub use vec::Vec;
 pub(crate) use {string::format, vec::vec};
 
-pub use std::{collections, error, fmt, hint, marker, mem};
+pub use std::{error, fmt, hint, marker, mem};
+
+pub mod collections {
+    pub use super::maps::BTreeMap;
+    pub use std::collections::LinkedList;
+}

@@ -36,6 +36,8 @@ pub mod rw_seat;
 pub mod rw_text;
 #[path = "../../../../rust/src/core/source/rw_values/mod.rs"]
 pub mod rw_values;
+#[path = "../../../../rust/src/core/source/rw_waiting/mod.rs"]
+pub mod rw_waiting;
 #[path = "../../../../rust/src/core/source/rw_watch/mod.rs"]
 pub mod rw_watch;
 #[path = "../../../../rust/src/core/source/rw_words/mod.rs"]

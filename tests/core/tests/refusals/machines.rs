@@ -79,7 +79,7 @@ fn new_ring() -> Result<Ring<u64>, NoMemory> {
     made(|| Ring::new(Global, 4))
 }
 
-/// Makes room in a table for so many handles.
+/// Makes room in a table for `handles` handles.
 fn ready_table(table: &mut Table<u64>, handles: u64) -> Result<(), NoMemory> {
     if u64::from(table.made()) > MUCH || handles > MUCH {
         return Err(NoMemory);
@@ -95,7 +95,7 @@ fn make_handle(table: &mut Table<u64>) {
     say!("  {:?}", table.make(Kind::Receiver, 5))
 }
 
-/// Makes room in a table for so many handles, and says how many it has made.
+/// Makes room in a table for `handles` handles, and says how many it has made.
 fn say_ready(table: &mut Table<u64>, handles: u64) {
     let readied = ready_table(table, handles);
     say!("a table for {handles}: {readied:?}, made {}", table.made())

@@ -65,7 +65,7 @@ fn call_all(
     seat
 }
 
-/// Makes them so many times.
+/// Makes the calls again, `rounds` times.
 fn call_again(
     desk: &SeatDesk<u64>,
     mut seat: DeskSeat<u64>,

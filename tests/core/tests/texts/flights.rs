@@ -3,7 +3,7 @@
 use proved::Global;
 use proved::rw_recording::{BCall, ChanCall, Dozing, Flight, Kept, Spec, Window, WindowFault};
 
-/// A broadcast that retains one value, with the last of these calls, of which a chunk has so many.
+/// A broadcast that retains one value, with the last of these calls, of which a chunk has `chunk`.
 fn flown(chunk: usize, calls: &[BCall<u64>]) -> Flight {
     let mut flight = Flight::open(Global, Spec::Broadcast(1), chunk).unwrap();
     call_all(&mut flight, calls);

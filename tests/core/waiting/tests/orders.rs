@@ -3,7 +3,7 @@
 use waiting::orders::{Found, Play, Search};
 use waiting::versions::right::{locks, seats};
 
-/// A call makes at most so many steps while no other thread changes anything.
+/// A call makes at most this number of steps while no other thread changes anything.
 const MOST_ALONE: u32 = 12;
 
 /// All orders.

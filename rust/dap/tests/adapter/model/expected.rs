@@ -149,8 +149,8 @@ impl Expected {
         }
     }
 
-    /// The breakpoint of a function: a method, of an actor's calls or of those on a channel if one is
-    /// before it. An actor's name is that of its calls, also where it is its receiver's name.
+    /// The breakpoint of a function: a method, with a channel or an actor before it. An actor's
+    /// name is that of its calls, also where a receiver is called by it.
     pub fn at_function(&self, head: Option<&str>, method: &str) -> Point {
         let channel = match head {
             Some("orders") => Some(0),

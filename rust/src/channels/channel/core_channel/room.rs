@@ -10,6 +10,31 @@ use crate::run::reply::Reply;
 use std::{iter, mem};
 
 impl CoreChannel {
+    /// Whether a quarter of the handles that a journal names aren't alive, and no others are.
+    pub(crate) fn has_room_again(&self) -> bool {
+        self.further.is_empty() && self.first.has_much_room()
+    }
+
+    /// Forgets all calls so far of a channel that keeps its last calls. Returns the numbers of its
+    /// handles, in the order of their table, and how many were created in all, or `None` if there
+    /// is no memory for it.
+    pub(crate) fn forget_all(&mut self) -> Option<(Vec<u32>, u64)> {
+        // What is kept since one renumbering is the past of the next one. That has no calls.
+        self.renumber(0)?;
+        self.renumber(0)?;
+        self.first.look_when_full();
+        let numbers = (0..self.first.made()).map(|handle| self.first.number(handle));
+        Some((
+            numbers.collect(),
+            self.numbers.all_created(self.first.made()),
+        ))
+    }
+
+    /// Returns how many calls of the first machine nobody has made since this was last asked.
+    pub(crate) fn take_by_nobody(&mut self) -> u64 {
+        self.first.take_by_nobody()
+    }
+
     /// As [`create`](CoreChannel::create), where handles have numbers of their own, or the first
     /// machine has no room. It isn't inlined, so that the call of a channel that is recorded is.
     #[inline(never)]
@@ -128,7 +153,13 @@ impl CoreChannel {
         if self.further.is_empty() {
             return None;
         }
-        let mut all = iter::once(self.newest).chain(0..=self.further.len());
+        // Where the last calls are kept, that goes on once all are in the first one.
+        let best = if self.first.core.keeps_last() {
+            0
+        } else {
+            self.newest
+        };
+        let mut all = iter::once(best).chain(0..=self.further.len());
         all.find(|number| self.can_create(*number, is_closed))
     }
 
@@ -160,7 +191,7 @@ impl CoreChannel {
             self.further.push(None);
             self.further.len() - 1
         });
-        // So many machines, each with a live handle, would need 64 GiB.
+        // 65,536 machines, each with a live handle, would need 64 GiB.
         assert!(
             index < 65_535,
             "yovanelum: a channel has machines for 4294967296 handles"

@@ -37,8 +37,8 @@ impl Dump {
     /// # Errors
     ///
     /// Returns an error if the dump is not written: the recorder is no flight recorder, or has no
-    /// folder or no channel, another dump is being written, or a file, memory or a thread was
-    /// refused.
+    /// folder or no channel, too many dumps are being written, or a file, memory or a thread was
+    /// refused. An error of a file says its path.
     ///
     /// # Examples
     ///
@@ -83,8 +83,9 @@ impl Dumps {
         self.failed
     }
 
-    /// Returns how many were called for and not begun, since the last one was begun too short a
-    /// time before ([`at_most_every`](crate::DumpTo::at_most_every)), or was still being written.
+    /// Returns how many were called for and not begun: the last one for such a reason was begun too
+    /// short a time before ([`at_most_every`](crate::DumpTo::at_most_every)), or is still being
+    /// written, or too many are.
     pub fn left_out(&self) -> u64 {
         self.left_out
     }

@@ -6,8 +6,38 @@ use crate::channels::lock::lock;
 use std::io;
 use std::path::{Path, PathBuf};
 use std::sync::Mutex;
-use std::sync::atomic::{AtomicBool, Ordering};
+use std::sync::atomic::Ordering;
 use std::time::{Duration, Instant};
+
+/// How many dumps that panics and callers have called for are begun at once. Each has a copy of the
+/// channels' last calls until it is its turn.
+const MOST_AT_ONCE: usize = 8;
+
+/// What calls for a dump.
+#[derive(Clone, Copy, PartialEq, Eq)]
+pub(crate) enum Trigger {
+    Lag,
+    Close,
+    Panic,
+    Call,
+}
+
+impl Trigger {
+    /// Returns its word in the names of a dump.
+    pub(crate) fn word(self) -> &'static str {
+        match self {
+            Trigger::Lag => "lag",
+            Trigger::Close => "close",
+            Trigger::Panic => "panic",
+            Trigger::Call => "call",
+        }
+    }
+
+    /// Whether there is a pause between such dumps.
+    fn has_pause(self) -> bool {
+        matches!(self, Trigger::Lag | Trigger::Close)
+    }
+}
 
 /// What calls for dumps, and where they are written.
 pub(crate) struct DumpSettings {
@@ -15,8 +45,38 @@ pub(crate) struct DumpSettings {
     pub(crate) closed: Vec<String>,
     pub(crate) at_most_every: Duration,
     pub(crate) keep: usize,
-    // When the last dump was begun.
+    begun: [BegunDumps; 4],
+}
+
+/// The dumps that one trigger has called for.
+#[derive(Clone, Copy, Default)]
+struct BegunDumps {
+    // When the last one was begun.
     last: Option<Instant>,
+    // How many haven't ended.
+    running: usize,
+}
+
+impl DumpSettings {
+    fn begun(&mut self, trigger: Trigger) -> &mut BegunDumps {
+        &mut self.begun[trigger as usize]
+    }
+
+    /// Returns why a dump isn't begun at this time, if it isn't.
+    fn refuses(&mut self, trigger: Trigger, now: Option<Instant>) -> Option<&'static str> {
+        let at_most_every = self.at_most_every;
+        let BegunDumps { last, running } = *self.begun(trigger);
+        if !trigger.has_pause() {
+            let are_many = running >= MOST_AT_ONCE;
+            return are_many.then_some("too many dumps of this recorder are being written");
+        }
+        let since = now.zip(last).map(|(now, last)| now - last);
+        let is_near = since.is_some_and(|since| since < at_most_every);
+        if is_near {
+            return Some("the last one for such a reason was begun too short a time ago");
+        }
+        (running > 0).then_some("one for such a reason is being written")
+    }
 }
 
 /// The dumps of a recorder.
@@ -25,8 +85,6 @@ pub(crate) struct Dumping {
     // How many values a receiver has lost at least that calls for a dump: none does, if this is the
     // greatest number. It is read at each lag, so no lock is about it.
     least_lost: AtomicU64,
-    // Whether one is being written.
-    is_busy: AtomicBool,
     written: AtomicU64,
     failed: AtomicU64,
     left_out: AtomicU64,
@@ -40,10 +98,9 @@ impl Default for Dumping {
                 closed: Vec::new(),
                 at_most_every: Duration::from_secs(60),
                 keep: 16,
-                last: None,
+                begun: Default::default(),
             }),
             least_lost: AtomicU64::new(u64::MAX),
-            is_busy: AtomicBool::new(false),
             written: AtomicU64::new(0),
             failed: AtomicU64::new(0),
             left_out: AtomicU64::new(0),
@@ -60,12 +117,12 @@ impl Dumping {
         set(&mut lock(&self.settings));
     }
 
-    /// Has each lag call for a dump by which a receiver has lost at least so many values.
+    /// Calls for a dump at each lag by which a receiver has lost at least `least_lost` values.
     pub(crate) fn set_lag(&self, least_lost: u64) {
         self.least_lost.store(least_lost, Ordering::Relaxed);
     }
 
-    /// Whether a lag of so many values calls for a dump.
+    /// Whether a lag of `lost` values calls for a dump.
     pub(super) fn is_for_lag(&self, lost: u64) -> bool {
         lost >= self.least_lost.load(Ordering::Relaxed)
     }
@@ -80,33 +137,30 @@ impl Dumping {
     ///
     /// # Errors
     ///
-    /// Returns why it isn't begun: there is no folder, another one is being written, or something
-    /// has triggered it too short a time after the last one.
+    /// Returns why it isn't begun: there is no folder, or another one for such a reason is too
+    /// near.
     pub(super) fn begin(
         &self,
-        is_asked: bool,
+        trigger: Trigger,
         now: Option<Instant>,
     ) -> io::Result<(PathBuf, usize)> {
         let mut settings = lock(&self.settings);
         let Some(folder) = settings.folder.clone() else {
+            drop(settings);
             return self.fail(io::Error::other("it has no folder: `dump_to` sets one"));
         };
-        let since = now.zip(settings.last).map(|(now, last)| now - last);
-        let is_near = since.is_some_and(|since| since < settings.at_most_every);
-        if is_near && !is_asked || self.is_busy.swap(true, Ordering::SeqCst) {
+        if let Some(why) = settings.refuses(trigger, now) {
             self.left_out.fetch_add(1, Ordering::Relaxed);
-            return Err(io::Error::new(
-                io::ErrorKind::WouldBlock,
-                "another dump of this recorder is being written",
-            ));
+            return Err(io::Error::new(io::ErrorKind::WouldBlock, why));
         }
-        settings.last = now;
+        let begun = settings.begun(trigger);
+        (begun.last, begun.running) = (now, begun.running + 1);
         Ok((folder, settings.keep))
     }
 
     /// Ends a dump that was begun.
-    pub(super) fn end(&self) {
-        self.is_busy.store(false, Ordering::SeqCst);
+    pub(super) fn end(&self, trigger: Trigger) {
+        lock(&self.settings).begun(trigger).running -= 1;
     }
 
     /// Counts a dump that is written.
@@ -135,23 +189,54 @@ impl Dumping {
 mod tests {
     use super::*;
 
-    #[test]
-    fn what_came_too_soon_puts_nothing_off() {
+    /// A dumping with a folder, of which each dump is at most once in a minute without
+    /// `at_most_every`.
+    fn dumping() -> Dumping {
         let dumping = Dumping::default();
         dumping.set_folder(Path::new("dumps"));
-        let begun = Instant::now();
-        // A minute is the time without `at_most_every`. Each dump that is begun ends at once.
-        let begins = |seconds, is_asked| {
+        dumping
+    }
+
+    #[test]
+    fn what_came_too_soon_puts_nothing_off() {
+        let (dumping, begun) = (dumping(), Instant::now());
+        // Each dump that is begun ends at once.
+        let begins = |seconds, trigger| {
             let at = begun + Duration::from_secs(seconds);
-            let begins = dumping.begin(is_asked, Some(at)).is_ok();
+            let begins = dumping.begin(trigger, Some(at)).is_ok();
             if begins {
-                dumping.end();
+                dumping.end(trigger);
             }
             begins
         };
-        let triggered = [0, 30, 59, 60, 61, 119].map(|seconds| begins(seconds, false));
-        assert_eq!(triggered, [true, false, false, true, false, false]);
-        assert_eq!((begins(119, true), begins(121, false)), (true, false));
+        let lags = [0, 30, 59, 60, 61, 119].map(|seconds| begins(seconds, Trigger::Lag));
+        assert_eq!(lags, [true, false, false, true, false, false]);
+        // No other kind is put off by them, nor puts them off.
+        assert_eq!(
+            [119, 119].map(|at| begins(at, Trigger::Close)),
+            [true, false]
+        );
+        assert_eq!(
+            [119, 119].map(|at| begins(at, Trigger::Panic)),
+            [true, true]
+        );
+        assert_eq!([119, 119].map(|at| begins(at, Trigger::Call)), [true, true]);
+        assert!(begins(120, Trigger::Lag));
         assert_eq!(dumping.counts().left_out(), 5);
+    }
+
+    #[test]
+    fn panics_and_callers_are_not_kept_from_a_dump_by_one_that_is_written() {
+        let dumping = dumping();
+        dumping.set(|settings| settings.at_most_every = Duration::ZERO);
+        let begins = |trigger| dumping.begin(trigger, Some(Instant::now())).is_ok();
+        assert_eq!([0; 2].map(|_| begins(Trigger::Lag)), [true, false]);
+        for trigger in [Trigger::Panic, Trigger::Call] {
+            assert!((0..MOST_AT_ONCE).all(|_| begins(trigger)));
+            assert!(!begins(trigger));
+            dumping.end(trigger);
+            assert!(begins(trigger));
+        }
+        assert_eq!(dumping.counts().left_out(), 3);
     }
 }

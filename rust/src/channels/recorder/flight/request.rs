@@ -4,6 +4,7 @@ use super::super::noted_panic::NotedPanic;
 use super::super::shared::Shared;
 use super::WriteDump;
 use super::dump::Dump;
+use super::dumping::Trigger;
 use crate::channels::channel::{ChannelState, KeptChannel};
 use crate::channels::events::values;
 use crate::channels::handle::Kind;
@@ -43,14 +44,14 @@ pub(crate) struct DumpRequest {
     write: WriteDump,
 }
 
-/// The recorder of a dump. Until this is dropped it begins no other one, and gives no numbers of
+/// The recorder of a dump, and what called for it. Until this is dropped it gives no numbers of
 /// actors away.
-pub(crate) struct Begun(pub(crate) Arc<Shared>);
+pub(crate) struct Begun(pub(crate) Arc<Shared>, Trigger);
 
 impl Begun {
-    fn new(recorder: &Arc<Shared>) -> Begun {
+    fn new(recorder: &Arc<Shared>, trigger: Trigger) -> Begun {
         recorder.readers.fetch_add(1, Ordering::SeqCst);
-        Begun(recorder.clone())
+        Begun(recorder.clone(), trigger)
     }
 }
 
@@ -58,14 +59,14 @@ impl Drop for Begun {
     fn drop(&mut self) {
         self.0.readers.fetch_sub(1, Ordering::SeqCst);
         if let Some(flight) = &self.0.flight {
-            flight.dumping.end();
+            flight.dumping.end(self.1);
         }
     }
 }
 
 impl Shared {
     /// Returns the dump that a lag calls for, of a channel whose lock is held. The receiver with
-    /// this number has lost so many values.
+    /// this number has lost `lost` values.
     pub(crate) fn dump_on_lag(
         self: &Arc<Shared>,
         channel: &Arc<Mutex<ChannelState>>,
@@ -80,7 +81,7 @@ impl Shared {
         let receiver = state.handle_name(Kind::Receiver, receiver);
         let (channel_name, lost) = (state.name_or_place(), values(lost));
         let reason = format!("`{receiver}` lost {lost} of `{channel_name}`");
-        DumpRequest::about("lag", reason, self, (channel, state))
+        DumpRequest::about(Trigger::Lag, reason, self, (channel, state))
     }
 
     /// Returns the dump that the drop of the last sender calls for, of a channel whose lock is
@@ -95,7 +96,7 @@ impl Shared {
             return None;
         }
         let reason = format!("`{name}` was closed");
-        DumpRequest::about("close", reason, self, (channel, state))
+        DumpRequest::about(Trigger::Close, reason, self, (channel, state))
     }
 }
 
@@ -103,21 +104,21 @@ impl DumpRequest {
     /// Begins a dump, unless it is too soon.
     fn new(
         recorder: &Arc<Shared>,
-        trigger: &'static str,
+        trigger: Trigger,
         reason: String,
     ) -> io::Result<(DumpRequest, Dump)> {
         let Some(flight) = &recorder.flight else {
             return Err(io::Error::other("this recorder is no flight recorder"));
         };
-        let (folder, keep) = flight.dumping.begin(trigger == "call", now())?;
+        let (folder, keep) = flight.dumping.begin(trigger, now())?;
         let (told, ended) = channel();
         let last = recorder.last();
         let request = DumpRequest {
-            recorder: Begun::new(recorder),
+            recorder: Begun::new(recorder, trigger),
             folder,
             keep,
             why: Why {
-                trigger,
+                trigger: trigger.word(),
                 reason,
                 at: wall(),
             },
@@ -133,7 +134,7 @@ impl DumpRequest {
 
     /// Begins a dump that is about a channel, whose lock is held.
     fn about(
-        trigger: &'static str,
+        trigger: Trigger,
         reason: String,
         recorder: &Arc<Shared>,
         (channel, state): (&Arc<Mutex<ChannelState>>, &mut ChannelState),
@@ -151,7 +152,7 @@ impl DumpRequest {
 
     /// Begins a dump that somebody asks for.
     pub(crate) fn asked(recorder: &Arc<Shared>, reason: &str) -> Dump {
-        match DumpRequest::new(recorder, "call", reason.to_string()) {
+        match DumpRequest::new(recorder, Trigger::Call, reason.to_string()) {
             Ok((request, dump)) => {
                 request.begin();
                 dump
@@ -164,9 +165,10 @@ impl DumpRequest {
         }
     }
 
-    /// Begins a dump that a panic calls for, unless it is too soon.
+    /// Begins a dump that a panic calls for, unless too many are being written.
     pub(crate) fn on_panic(recorder: &Arc<Shared>, panic: NotedPanic) -> Option<Dump> {
-        let (mut request, dump) = DumpRequest::new(recorder, "panic", panic.in_words()).ok()?;
+        let (mut request, dump) =
+            DumpRequest::new(recorder, Trigger::Panic, panic.in_words()).ok()?;
         request.panic = Some(panic);
         request.begin();
         Some(dump)

@@ -4,9 +4,10 @@ use super::super::history::History;
 use super::super::naming::Naming;
 use super::Both;
 use crate::run::journal::{Run, RunEntry, Spec};
-use crate::run::names::Names;
+use crate::run::numbered::NumberMap;
+use crate::run::operation::{CallSet, Kind, Operation};
 use crate::run::reply::Reply;
-use crate::run::word::{CallSet, Kind, Word};
+use crate::run::sidecar::Sidecar;
 use std::collections::BTreeMap;
 
 /// The things of both runs, by a text that is the same in both.
@@ -24,7 +25,7 @@ impl Keys {
 pub(super) struct SideCall {
     pub(super) entry: RunEntry,
     /// The word, by which calls that wait are told from others.
-    pub(super) word: Word,
+    pub(super) word: Operation,
     pub(super) channel: u32,
     pub(super) handle: u32,
     caller: u32,
@@ -59,26 +60,26 @@ pub(super) struct SideChannel {
     senders: u32,
     handles: Vec<SideHandle>,
     // By caller, how many handles it has made.
-    made: BTreeMap<u32, u32>,
+    made: NumberMap<u32, u32>,
 }
 
 /// A run. Of one that begins in a window, the lead is none of its calls.
 pub(super) struct Side<'a> {
-    names: &'a Names,
+    names: &'a Sidecar,
     history: History,
     calls: Vec<SideCall>,
     pub(super) channels: Vec<SideChannel>,
     // By caller, the places of its calls.
-    places: BTreeMap<u32, Vec<u64>>,
+    places: NumberMap<u32, Vec<u64>>,
     // By actor, the caller that it is.
-    callers: BTreeMap<u32, u32>,
+    callers: NumberMap<u32, u32>,
     // How many actors that are called the same have made a call.
     labels: BTreeMap<String, u32>,
     both: Both,
 }
 
 impl<'a> Side<'a> {
-    pub(super) fn of((run, names): (&Run, &'a Names), both: Both, keys: &mut Keys) -> Side<'a> {
+    pub(super) fn of((run, names): (&Run, &'a Sidecar), both: Both, keys: &mut Keys) -> Side<'a> {
         let specs = (0..).zip(run.specs());
         let mut side = Side {
             names,
@@ -87,8 +88,8 @@ impl<'a> Side<'a> {
             channels: specs
                 .map(|(number, spec)| SideChannel::of((names, number), spec, both, keys))
                 .collect(),
-            places: BTreeMap::new(),
-            callers: BTreeMap::new(),
+            places: NumberMap::new(),
+            callers: NumberMap::new(),
             labels: BTreeMap::new(),
             both,
         };
@@ -169,13 +170,14 @@ impl<'a> Side<'a> {
     fn add(&mut self, place: u64, entry: RunEntry, keys: &mut Keys) {
         let caller = self.caller_of(place, &entry, keys);
         let word = self.naming().word(place, &entry);
-        let places = self.places.entry(caller).or_default();
+        let places = self.places.get_or_default(caller);
         places.push(place);
         let nth = places.len() - 1;
         let channel = &mut self.channels[entry.channel as usize];
         let handle = channel.handle(entry.handle, keys);
         let is_receiver = handle.kind == HandleKind::Receiver;
-        let counts = entry.word.is(CallSet::SENDS) || entry.word == Word::Subscribe || is_receiver;
+        let counts =
+            entry.word.is(CallSet::SENDS) || entry.word == Operation::Subscribe || is_receiver;
         self.calls.push(SideCall {
             word,
             channel: channel.key,
@@ -258,7 +260,7 @@ pub(super) enum ValueKey<'a> {
 
 /// Returns what a channel is to both runs: its kind, and who made it as the how manieth, or its
 /// number.
-fn channel_text(names: &Names, spec: &Spec<u64>, number: u64, both: Both) -> String {
+fn channel_text(names: &Sidecar, spec: &Spec<u64>, number: u64, both: Both) -> String {
     let kind = match spec {
         Spec::Broadcast(_) => "broadcast",
         Spec::Watch(_) => "watch",
@@ -272,13 +274,13 @@ fn channel_text(names: &Names, spec: &Spec<u64>, number: u64, both: Both) -> Str
 
 /// Returns what a handle is to both runs that was there before the window, or before all calls: by
 /// its real number.
-fn handle_text(names: &Names, channel: u32, number: u64) -> String {
+fn handle_text(names: &Sidecar, channel: u32, number: u64) -> String {
     format!("handle {}", names.handle_number(channel, number))
 }
 
 impl SideChannel {
     fn of(
-        (names, number): (&Names, u32),
+        (names, number): (&Sidecar, u32),
         spec: &Spec<u64>,
         both: Both,
         keys: &mut Keys,
@@ -296,7 +298,7 @@ impl SideChannel {
                     key: keys.of(handle_text(names, number, handle)),
                 })
                 .collect(),
-            made: BTreeMap::new(),
+            made: NumberMap::new(),
         }
     }
 
@@ -338,15 +340,15 @@ impl SideChannel {
         }
     }
 
-    fn make(&mut self, word: Word, caller: u32, keys: &mut Keys) {
-        let before = self.made.entry(caller).or_default();
+    fn make(&mut self, word: Operation, caller: u32, keys: &mut Keys) {
+        let before = self.made.get_or_default(caller);
         let text = format!("made {before} by {caller}");
         *before += 1;
         self.add(word, text, keys);
     }
 
     /// Adds the handle that a call of this word creates.
-    fn add(&mut self, word: Word, text: String, keys: &mut Keys) {
+    fn add(&mut self, word: Operation, text: String, keys: &mut Keys) {
         let kind = match word.makes() {
             Some(Kind::Sender) => HandleKind::Sender,
             Some(Kind::WeakSender) => HandleKind::WeakSender,

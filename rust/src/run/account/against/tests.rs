@@ -2,7 +2,7 @@
 
 use super::Against;
 use crate::run::journal::Run;
-use crate::run::names::Names;
+use crate::run::sidecar::Sidecar;
 
 /// Compares two runs of one broadcast of two: their entries with the stamps 1, 2, 3, .., and the
 /// names beside them.
@@ -13,7 +13,7 @@ fn against(here: (&[&str], &str), there: (&[&str], &str)) -> Vec<String> {
             text += &format!("{stamp} {entry}\n");
         }
         let run = Run::read((text + "end\n").as_bytes()).unwrap();
-        (run, Names::read(names).unwrap())
+        (run, Sidecar::read(names).unwrap())
     };
     let (here, there) = (read(here), read(there));
     Against::of((&here.0, &here.1), (&there.0, &there.1)).lines
@@ -147,10 +147,10 @@ fn channels_are_the_same_by_their_makers() {
         let text = format!(
             r#"{{"actors": {{"0": "t"}}, "made_by": {{"0": ["t", {first}], "1": ["t", {second}]}}}}"#
         );
-        Names::read(&text).unwrap()
+        Sidecar::read(&text).unwrap()
     };
     let runs = [journal, &other].map(|text| Run::read(text.as_bytes()).unwrap());
-    let lines = |a: Names, b: Names| Against::of((&runs[0], &a), (&runs[1], &b)).lines;
+    let lines = |a: Sidecar, b: Sidecar| Against::of((&runs[0], &a), (&runs[1], &b)).lines;
     assert_eq!(lines(names(0, 1), names(1, 0))[0], "no call differs");
     let wanted = "the first difference: call 1, `t` made another call in the other run";
     assert_eq!(lines(names(0, 1), names(0, 1))[0], wanted);

@@ -3,8 +3,9 @@
 use super::super::columns::{Cells, aligned};
 use super::side::{Side, SideCall, SideChannel};
 use super::{Differing, DiffersBy, visible};
+use crate::run::operation::Operation;
 use crate::run::reply::Reply;
-use crate::run::word::Word;
+use crate::run::sorting::sort_by_key;
 
 /// The call that an order is about: which run it comes before in alone, its place there, and how
 /// many sends do. Without a send, it is the drop that closes the channel.
@@ -71,7 +72,7 @@ fn rows(here: &Side<'_>, there: &Side<'_>, first: &Differing, about: Option<&Abo
     }
     let mut rows = vec![];
     for ((word, side), mut places) in [("here", here), ("there", there)].into_iter().zip(places) {
-        places.sort_unstable();
+        sort_by_key(&mut places, |place| *place);
         places.dedup();
         rows.extend(places.into_iter().map(|place| cells(word, side, place)));
     }
@@ -94,7 +95,7 @@ fn cells(word: &str, side: &Side<'_>, place: u64) -> Cells {
 
 fn argument(side: &Side<'_>, call: &SideCall) -> String {
     match (call.entry.word, call.entry.value) {
-        (Word::Drop, _) => call.entry.handle.to_string(),
+        (Operation::Drop, _) => call.entry.handle.to_string(),
         (_, Some(value)) => side.naming().value(call.entry.channel, value),
         _ => String::new(),
     }

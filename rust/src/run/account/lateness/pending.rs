@@ -4,7 +4,8 @@
 use super::stretches::{self, TaskDoing};
 use super::texts::{LateTexts, waited_at};
 use crate::run::account::Context;
-use crate::run::names::SeenPoll;
+use crate::run::sidecar::SeenPoll;
+use crate::run::sorting::sort_by_key;
 
 /// A task that waits.
 #[derive(Debug)]
@@ -34,7 +35,7 @@ pub(in crate::run::account) fn all(context: &Context<'_>) -> Vec<PendingTask> {
         waits.then_some((task, stretch))
     });
     let mut last: Vec<_> = last.collect();
-    last.sort_by_key(|(_, stretch)| stretch.times.0);
+    sort_by_key(&mut last, |(_, stretch)| stretch.times.0);
     let pending = last.into_iter().map(|(task, stretch)| {
         let poll = &task.polls[stretch.index];
         let name = texts.name(task);

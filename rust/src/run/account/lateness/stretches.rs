@@ -1,7 +1,7 @@
 //! The time of a task, in stretches: it is polled, then it waits until it is woken, and then it is
 //! ready until it is polled again.
 
-use crate::run::names::SeenTask;
+use crate::run::sidecar::SeenTask;
 
 /// What a task does.
 #[derive(Clone, Copy, Debug, PartialEq, Eq)]
@@ -101,7 +101,7 @@ pub(super) fn at(task: &SeenTask, stamp: u64, now: u64) -> Option<Stretch> {
 #[cfg(test)]
 mod tests {
     use super::*;
-    use crate::run::names::{SeenPoll, SeenWake, WokenBy};
+    use crate::run::sidecar::{SeenPoll, SeenWake, WokenBy};
 
     // When it begins and ends, the stamps before and after it, and when and at which stamp it is
     // woken.

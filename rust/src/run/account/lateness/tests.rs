@@ -63,11 +63,11 @@ fn it_waited_elsewhere() {
 
 #[test]
 fn what_is_told_is_stored_and_said_again() {
-    use crate::run::names::Names;
+    use crate::run::sidecar::Sidecar;
     let before =
         [[100, 110], [200, 210]].map(|[begin, end]| format!("[{begin}, {end}, 0, 0, 0, [3]], "));
     let waits = WAITS.replace("[[10,", &format!("[{}[10,", before.concat()));
-    let mut stored = Names::read(&names(TIMES, &[FEED, &waits, BACKUP])).unwrap();
+    let mut stored = Sidecar::read(&names(TIMES, &[FEED, &waits, BACKUP])).unwrap();
     let all = of(TIMES, &[FEED, &waits, BACKUP]);
     stored.keep_tasks_told(&all.told_of_tasks);
     let polls = &stored.tasks_seen.as_ref().unwrap().tasks[1].polls;

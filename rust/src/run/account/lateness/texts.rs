@@ -2,7 +2,7 @@
 
 use super::stretches::Stretch;
 use crate::run::account::{Context, visible};
-use crate::run::names::{SeenPoll, SeenTask, SeenWake, SourceLocation, TasksSeen, WokenBy};
+use crate::run::sidecar::{SeenPoll, SeenTask, SeenWake, SourceLocation, TasksSeen, WokenBy};
 
 /// How many places of one wait are named.
 const MOST_PLACES: usize = 2;

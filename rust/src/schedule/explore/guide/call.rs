@@ -2,12 +2,12 @@
 
 use super::Effect;
 use crate::channels::channel::{Known, KnownReceiver};
-use crate::run::word::{CallSet, Kind, Word};
+use crate::run::operation::{CallSet, Kind, Operation};
 
 /// A call that stands, on a channel.
 pub(super) struct StandingCall<'a> {
     pub(super) who: &'a str,
-    pub(super) word: Word,
+    pub(super) word: Operation,
     pub(super) handle: u32,
     pub(super) channel: &'a Known,
 }
@@ -28,11 +28,11 @@ impl StandingCall<'_> {
     }
 
     fn drops_sender(&self) -> bool {
-        self.word == Word::Drop && self.receiver().is_none()
+        self.word == Operation::Drop && self.receiver().is_none()
     }
 
     fn drops_receiver(&self) -> bool {
-        self.word == Word::Drop && self.receiver().is_some()
+        self.word == Operation::Drop && self.receiver().is_some()
     }
 
     /// What it is to a condition with this word, on its channel.
@@ -41,7 +41,7 @@ impl StandingCall<'_> {
             ("closed", _) if self.sends() || self.drops_sender() => Effect::Nearer,
             ("closed", _) if self.word.makes() == Some(Kind::Sender) => Effect::Away,
             ("closed", _) => Effect::None,
-            ("queue", Word::Subscribe) if self.channel.receivers.is_empty() => Effect::First,
+            ("queue", Operation::Subscribe) if self.channel.receivers.is_empty() => Effect::First,
             ("queue", _) if self.receives() || self.drops_receiver() => Effect::Away,
             ("queue" | "version", _) if !self.sends() => Effect::None,
             _ => Effect::Nearer,

@@ -3,13 +3,13 @@
 use super::super::clock::Time;
 use super::super::divergence::CameInstead;
 use super::super::state::{GateState, HeldPoll, Standing, Waiter};
-use super::super::{Coming, Identity};
+use super::super::{ArrivingCall, Identity};
 use super::{BETWEEN_LOOKS, Gate, TurnFor};
 use crate::channels::backend::Actor;
 use crate::channels::block_on::is_blocked_on_future;
 use crate::channels::reentrant::thread_number;
 use crate::channels::turns::Ticket;
-use crate::run::word::CallSet;
+use crate::run::operation::CallSet;
 use std::task::{Context, Poll};
 
 /// How much longer than threads futures wait: they keep no thread away from the others.
@@ -20,7 +20,7 @@ impl Gate {
     /// ticket.
     pub(super) fn poll_turn(
         &self,
-        coming: Coming,
+        coming: ArrivingCall,
         ticket: &mut Option<Ticket>,
         context: &Context<'_>,
     ) -> Poll<bool> {

@@ -5,8 +5,8 @@ use super::super::divergence::CameInstead;
 use super::super::outcome;
 use super::{Gate, TurnFor};
 use crate::channels::standard_error::say;
-use crate::channels::turns::{Coming, TestEnd, Ticket, Turns};
-use crate::run::names::Maker;
+use crate::channels::turns::{ArrivingCall, TestEnd, Ticket, Turns};
+use crate::run::sidecar::Maker;
 use std::mem;
 use std::task::{Context, Poll};
 
@@ -25,11 +25,11 @@ impl Turns for Gate {
     }
 
     #[inline]
-    fn pass(&self, coming: Coming, _has_unread: &dyn Fn() -> bool) -> bool {
+    fn pass(&self, coming: ArrivingCall, _has_unread: &dyn Fn() -> bool) -> bool {
         !self.entrance.is_over() && self.wait(coming, TurnFor::Call)
     }
 
-    fn pass_to_modify(&self, coming: Coming) {
+    fn pass_to_modify(&self, coming: ArrivingCall) {
         if !self.entrance.is_over() {
             self.wait(coming, TurnFor::Modify);
         }
@@ -37,7 +37,7 @@ impl Turns for Gate {
 
     fn poll(
         &self,
-        coming: Coming,
+        coming: ArrivingCall,
         _has_unread: &dyn Fn() -> bool,
         ticket: &mut Option<Ticket>,
         context: &Context<'_>,
@@ -45,7 +45,7 @@ impl Turns for Gate {
         self.poll_turn(coming, ticket, context)
     }
 
-    fn note_question(&self, coming: Coming) {
+    fn note_question(&self, coming: ArrivingCall) {
         if !self.entrance.is_over() {
             self.entrance.enter().actors[coming.actor.number() as usize].asked = Some(coming);
         }

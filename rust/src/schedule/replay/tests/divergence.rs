@@ -5,8 +5,8 @@ use super::{
     poll, told,
 };
 use crate::channels::block_on::block_on;
-use crate::channels::turns::{Coming, Turns};
-use crate::run::word::Word;
+use crate::channels::turns::{ArrivingCall, Turns};
+use crate::run::operation::Operation;
 use std::future::poll_fn;
 use std::task::{Context, Poll};
 use std::time::Duration;
@@ -17,7 +17,7 @@ fn another_call_parts_at_once() {
     let gate = gate();
     // The next call of this receiver is a receive that waits. It isn't the audit's turn, so it
     // would be patient.
-    make(&gate, call(AUDIT, 0, Word::TryRecv, 1));
+    make(&gate, call(AUDIT, 0, Operation::TryRecv, 1));
     let wanted = "diverges at call 1 of 6: expected `send 0` on `orders` by `clerk` at src/shop.rs:15, \
                   came `try-recv 1` on `orders` by `audit`";
     let replayed = gate.outcome();
@@ -31,9 +31,9 @@ fn another_call_of_the_actor_whose_turn_it_is_parts_soon() {
     let gate = gate();
     // The journal has no such handle.
     let location = std::panic::Location::caller();
-    let subscribe = Coming {
+    let subscribe = ArrivingCall {
         called_at: Some(location),
-        ..call(CLERK, 0, Word::Subscribe, 7)
+        ..call(CLERK, 0, Operation::Subscribe, 7)
     };
     make(&gate, subscribe);
     let wanted = format!(
@@ -51,7 +51,7 @@ fn a_call_that_would_wait_at_its_turn_diverges() {
     let gate = gate();
     make_first(&gate, 1);
     let channel = ordered(&gate);
-    let permit = channel.pass(call(AUDIT, 0, Word::Recv, 1), &|| false);
+    let permit = channel.pass(call(AUDIT, 0, Operation::Recv, 1), &|| false);
     permit.unwrap().would_wait();
     let wanted = "diverges at call 2 of 6: expected `recv 1` on `orders` by `audit` at src/audit.rs:30, \
                   came the same call, which had to wait";
@@ -62,7 +62,7 @@ fn a_call_that_would_wait_at_its_turn_diverges() {
 #[cfg_attr(target_family = "wasm", ignore = "WebAssembly has no threads")]
 fn a_thread_goes_on_where_nothing_comes_for_too_long() {
     let gate = gate_of(JOURNAL, NAMES, Duration::from_millis(5));
-    make(&gate, call(NOBODY, 0, Word::Send, 0));
+    make(&gate, call(NOBODY, 0, Operation::Send, 0));
     let wanted = "diverges at call 1 of 6: expected `send 0` on `orders` by `clerk` at src/shop.rs:15, \
                   came nothing for 5 ms, while `send 0` on `orders` waited";
     assert_eq!(gate.outcome().to_string(), wanted);
@@ -74,7 +74,7 @@ fn a_future_goes_on_where_nothing_comes_for_too_long() {
     let gate = gate_of(JOURNAL, NAMES, Duration::from_millis(5));
     let (_, waker, woken) = told();
     let mut ticket = None;
-    let recv = call(AUDIT, 0, Word::Recv, 1);
+    let recv = call(AUDIT, 0, Operation::Recv, 1);
     assert!(!poll(&gate, recv, &mut ticket, &waker));
     assert_eq!(woken.recv().unwrap(), "yovanelum-replay");
     assert!(poll(&gate, recv, &mut ticket, &waker));
@@ -108,7 +108,7 @@ fn tasks_of_the_journal_that_have_no_name_are_told() {
                 "ended before call 2 of 6: `recv 1` on `orders` by `audit` at src/audit.rs:30{wanted}"
             )
         );
-        make(&gate, call(AUDIT, 0, Word::TryRecv, 1));
+        make(&gate, call(AUDIT, 0, Operation::TryRecv, 1));
         let said = gate.outcome().to_string();
         let wanted = format!(", came `try-recv 1` on `orders` by `audit`{wanted}");
         assert!(said.ends_with(&wanted), "{said}");
@@ -122,7 +122,7 @@ fn a_caller_without_a_name_on_a_thread_of_named_tasks_is_told() {
     let gate = gate();
     assert!(!gate.holds("clerk", None, &Context::from_waker(&waker)));
     make_first(&gate, 1);
-    make(&gate, call(AUDIT, 0, Word::TryRecv, 1));
+    make(&gate, call(AUDIT, 0, Operation::TryRecv, 1));
     let said = gate.outcome().to_string();
     assert!(said.ends_with(NAME_TASKS), "{said}");
     // A thread that is blocked on a future runs no other.
@@ -131,7 +131,7 @@ fn a_caller_without_a_name_on_a_thread_of_named_tasks_is_told() {
         Poll::Ready(gate.holds("clerk", None, context))
     }));
     make_first(&gate, 1);
-    make(&gate, call(AUDIT, 0, Word::TryRecv, 1));
+    make(&gate, call(AUDIT, 0, Operation::TryRecv, 1));
     let said = gate.outcome().to_string();
     assert!(!is_held && said.ends_with(" by `audit`"), "{said}");
 }
@@ -141,11 +141,11 @@ fn a_caller_without_a_name_on_a_thread_of_named_tasks_is_told() {
 fn a_question_that_leaves_no_entry_is_told() {
     let gate = gate();
     let location = std::panic::Location::caller();
-    gate.note_question(Coming {
+    gate.note_question(ArrivingCall {
         called_at: Some(location),
-        ..call(CLERK, 0, Word::SenderLen, 0)
+        ..call(CLERK, 0, Operation::SenderLen, 0)
     });
-    make(&gate, call(CLERK, 0, Word::Subscribe, 0));
+    make(&gate, call(CLERK, 0, Operation::Subscribe, 0));
     let wanted = format!(
         "diverges at call 1 of 6: expected `send 0` on `orders` by `clerk` at src/shop.rs:15, came `subscribe 0` on `orders` \
          by `clerk`; before that came `sender-len 0` on `orders` by `clerk` at {}:{}, and after `quiet_questions()` no \
@@ -160,9 +160,9 @@ fn a_question_that_leaves_no_entry_is_told() {
 #[cfg_attr(target_family = "wasm", ignore = "WebAssembly has no threads")]
 fn the_question_of_the_caller_that_does_not_come_is_told() {
     let gate = gate_of(JOURNAL, NAMES, Duration::from_millis(5));
-    gate.note_question(call(CLERK, 0, Word::ReceiverCount, 0));
-    gate.note_question(call(AUDIT, 0, Word::ReceiverLen, 1));
-    make(&gate, call(NOBODY, 0, Word::Send, 0));
+    gate.note_question(call(CLERK, 0, Operation::ReceiverCount, 0));
+    gate.note_question(call(AUDIT, 0, Operation::ReceiverLen, 1));
+    make(&gate, call(NOBODY, 0, Operation::Send, 0));
     let wanted = "came nothing for 5 ms, while `send 0` on `orders` waited; before that came `receiver-count 0` on \
                   `orders` by `clerk`, and after `quiet_questions()` no replay orders what it returns";
     let replayed = gate.outcome().to_string();
@@ -181,7 +181,7 @@ fn a_question_that_the_journal_lacks_is_told() {
         (NAMES, ""),
     ] {
         let gate = gate_of(JOURNAL, names, Duration::from_secs(600));
-        make(&gate, call(AUDIT, 0, Word::ReceiverLen, 1));
+        make(&gate, call(AUDIT, 0, Operation::ReceiverLen, 1));
         let wanted = format!("came `receiver-len 1` on `orders` by `audit`{wanted}");
         let replayed = gate.outcome().to_string();
         assert!(replayed.ends_with(&wanted), "{replayed}");
@@ -196,9 +196,9 @@ const STRANGER: usize = 5;
 fn a_caller_that_the_journal_does_not_have_is_told_by_its_place() {
     let location = std::panic::Location::caller();
     let at = format!("{}:{}", location.file(), location.line());
-    let send = Coming {
+    let send = ArrivingCall {
         called_at: Some(location),
-        ..call(STRANGER, 0, Word::Send, 0)
+        ..call(STRANGER, 0, Operation::Send, 0)
     };
     let gate = gate_of(JOURNAL, NAMES, Duration::from_millis(5));
     make(&gate, send);
@@ -220,14 +220,14 @@ fn a_drop_that_has_no_place_is_told_by_that_of_its_callers_last_call() {
     // Its first call is elsewhere.
     let first = std::panic::Location::caller();
     for called_at in [first, location] {
-        let recv = Coming {
+        let recv = ArrivingCall {
             called_at: Some(called_at),
-            ..call(STRANGER, 0, Word::Recv, 7)
+            ..call(STRANGER, 0, Operation::Recv, 7)
         };
         assert!(!poll(&gate, recv, &mut ticket, &waker));
         gate.leave(ticket.take().unwrap());
     }
-    make(&gate, call(STRANGER, 0, Word::Drop, 7));
+    make(&gate, call(STRANGER, 0, Operation::Drop, 7));
     let wanted = format!(
         "while `drop 7` on `orders` by a caller that the journal doesn't have, whose last call was at {at} waited{NAME_TASKS}"
     );

@@ -4,7 +4,7 @@ use super::{
     AUDIT, CLERK, JOURNAL, NAMES, PATIENT, call, gate, gate_of, make, make_first, poll, told,
 };
 use crate::channels::turns::Turns;
-use crate::run::word::Word;
+use crate::run::operation::Operation;
 use std::sync::atomic::Ordering;
 use std::task::Context;
 
@@ -14,7 +14,7 @@ fn a_future_is_pending_until_its_turn_and_woken_by_the_helper() {
     let gate = gate();
     let (_, waker, woken) = told();
     let mut ticket = None;
-    let recv = call(AUDIT, 0, Word::Recv, 1);
+    let recv = call(AUDIT, 0, Operation::Recv, 1);
     assert!(!poll(&gate, recv, &mut ticket, &waker));
     assert!(!poll(&gate, recv, &mut ticket, &waker));
     assert_eq!(gate.entrance.lock().waiters.len(), 1);
@@ -30,14 +30,14 @@ fn a_future_that_is_dropped_leaves_the_gate() {
     let gate = gate();
     let (dropped, waker, _woken) = told();
     let mut ticket = None;
-    let recv = call(AUDIT, 0, Word::Recv, 1);
+    let recv = call(AUDIT, 0, Operation::Recv, 1);
     assert!(!poll(&gate, recv, &mut ticket, &waker));
     gate.leave(ticket.take().unwrap());
     assert!(gate.entrance.lock().waiters.is_empty());
     make_first(&gate, 5);
     // The end wakes each task that was seen, and this may be one that goes on.
     assert_eq!(dropped.wakes.load(Ordering::SeqCst), 0);
-    make(&gate, call(CLERK, 0, Word::Drop, 0));
+    make(&gate, call(CLERK, 0, Operation::Drop, 0));
     assert!(gate.outcome().is_in_order());
 }
 
@@ -47,7 +47,7 @@ fn the_end_wakes_futures_that_the_journal_does_not_have() {
     let gate = gate();
     let (_, waker, woken) = told();
     let mut ticket = None;
-    let recv = call(CLERK, 0, Word::Recv, 5);
+    let recv = call(CLERK, 0, Operation::Recv, 5);
     assert!(!poll(&gate, recv, &mut ticket, &waker));
     make_first(&gate, 6);
     assert_eq!(woken.recv().unwrap(), "yovanelum-replay");
@@ -67,10 +67,10 @@ fn a_poll_is_held_back_until_the_turn_of_its_actor() {
     assert!(!gate.holds("somebody else", None, &context));
     make_first(&gate, 1);
     assert!(gate.holds("clerk", None, &context) && gate.holds("clerk", None, &context));
-    make(&gate, call(AUDIT, 0, Word::Recv, 1));
+    make(&gate, call(AUDIT, 0, Operation::Recv, 1));
     assert_eq!(woken.recv().unwrap(), "yovanelum-replay");
     assert!(!gate.holds("clerk", None, &context) && gate.holds("audit", None, &context));
-    make(&gate, call(CLERK, 1, Word::Modify, 0));
+    make(&gate, call(CLERK, 1, Operation::Modify, 0));
     // The turn is that of one without a name, who doesn't come for a while. Then the others are
     // polled.
     assert_eq!(woken.recv().unwrap(), "yovanelum-replay");
@@ -86,7 +86,7 @@ fn a_future_that_was_dropped_is_not_polled_at_the_turn_of_its_drop() {
     let context = Context::from_waker(&waker);
     make_first(&gate, 5);
     assert!(gate.holds("clerk", None, &context));
-    make(&gate, call(CLERK, 0, Word::Drop, 0));
+    make(&gate, call(CLERK, 0, Operation::Drop, 0));
     assert!(gate.outcome().is_in_order());
 }
 

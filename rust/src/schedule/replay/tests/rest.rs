@@ -39,7 +39,7 @@ fn is_alone(test: &str) -> bool {
     false
 }
 
-/// Looks until all are seen to sleep, or for so many times in vain.
+/// Looks until all are seen to sleep, or looks `times` times in vain.
 fn is_seen(rest: &mut RestWatch, times: usize) -> bool {
     let now = RunningClock::new().now();
     (0..times).any(|_| {

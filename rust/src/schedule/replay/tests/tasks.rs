@@ -2,7 +2,7 @@
 
 use super::{AUDIT, CLERK, NAMES, PATIENT, call, gate_of, make, poll, told};
 use crate::channels::block_on::block_on;
-use crate::run::word::Word;
+use crate::run::operation::Operation;
 use crate::schedule::replay::Gate;
 use std::future::poll_fn;
 use std::sync::Arc;
@@ -14,12 +14,17 @@ fn gate() -> Arc<Gate> {
     let journal = "ttd-journal 2\nbroadcast 4\nsteps\n1 0 0 drop 0 = dropped\n\
         2 1 0 recv 1 = closed\n3 1 0 recv 1 = closed\n4 1 0 recv 1 = closed\nend\n";
     let gate = gate_of(journal, NAMES, PATIENT);
-    make(&gate, call(CLERK, 0, Word::Drop, 0));
+    make(&gate, call(CLERK, 0, Operation::Drop, 0));
     gate
 }
 
 fn receive(gate: &Arc<Gate>, task: &Waker) {
-    assert!(poll(gate, call(AUDIT, 0, Word::Recv, 1), &mut None, task));
+    assert!(poll(
+        gate,
+        call(AUDIT, 0, Operation::Recv, 1),
+        &mut None,
+        task
+    ));
 }
 
 /// Returns how it goes that these tasks receive, one after the other.

@@ -1,4 +1,4 @@
-//! Sends so many values by the Rust crate, under a recorder: `crate NUMBER`.
+//! Sends NUMBER values by the Rust crate, under a recorder: `crate NUMBER`.
 
 use yovanelum::{Recorder, broadcast};
 

@@ -1,4 +1,4 @@
-//! Sends so many values by `b_send` of a desk: `desk NUMBER`.
+//! Sends NUMBER values by `b_send` of a desk: `desk NUMBER`.
 
 use proved::rw_desk::{Desk, Ends};
 use proved::rw_world::Spec;

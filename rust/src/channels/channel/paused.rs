@@ -1,0 +1,92 @@
+//! A channel of a flight recorder of which too many handles are alive: its calls aren't kept until
+//! there is room again.
+
+use super::ChannelState;
+use super::last_calls::LastCalls;
+use super::made_handles::MadeHandles;
+use crate::channels::recorder::Shared;
+use crate::run::clock::Times;
+use std::collections::HashMap;
+
+/// What is known of a channel whose last calls aren't kept for a time.
+pub(crate) struct PausedFlight {
+    chunk: usize,
+    // How many calls were made until now.
+    calls: u64,
+    // The handles of before.
+    handles: MadeHandles,
+}
+
+impl PausedFlight {
+    /// Counts a call, which gets the recorder's next number, since the core keeps it all the same.
+    pub(super) fn tick(&mut self, recorder: &Shared) -> u64 {
+        self.calls += 1;
+        recorder.tick()
+    }
+
+    /// Counts a call less, since it wasn't made.
+    pub(super) fn remove_last(&mut self) {
+        self.calls -= 1;
+    }
+}
+
+impl ChannelState {
+    /// Keeps no calls until there is room for further handles, if the last calls were kept. Returns
+    /// `false` if all calls are.
+    pub(super) fn pause(&mut self) -> bool {
+        let Some(last) = self.last_calls.take() else {
+            return false;
+        };
+        self.is_recorded = false;
+        self.paused = Some(Box::new(PausedFlight {
+            chunk: last.chunk(),
+            calls: last.count(),
+            handles: last.handles,
+        }));
+        true
+    }
+
+    /// Keeps the last calls again, from now on, where that was paused, if there is room. Returns
+    /// whether it does.
+    #[cold]
+    #[inline(never)]
+    pub(super) fn goes_on(&mut self, recorder: &Shared) -> bool {
+        if !self.core.has_room_again() {
+            return false;
+        }
+        let Some((numbers, created)) = self.core.forget_all() else {
+            return false;
+        };
+        let Some(paused) = self.paused.take() else {
+            return false;
+        };
+        recorder.skip(self.core.take_by_nobody());
+        let last = self.last_calls_after(*paused, (&numbers, created), recorder.times);
+        self.last_calls = Some(Box::new(last));
+        self.is_recorded = true;
+        recorder.tell_of_room();
+        true
+    }
+
+    /// Returns what is known of the last calls, of which there are none yet. The handles have these
+    /// numbers, and `created` handles were created in all.
+    fn last_calls_after(
+        &self,
+        paused: PausedFlight,
+        (numbers, created): (&[u32], u64),
+        times: Times,
+    ) -> LastCalls {
+        let receivers = self.receivers.iter();
+        let receivers: HashMap<_, _> = receivers.map(|it| (it.number, it.made_at)).collect();
+        let handles = numbers.iter().map(|number| {
+            let nth = self.core.nth(*number);
+            let made_at = receivers.get(number).copied().flatten();
+            (nth, made_at.or_else(|| paused.handles.made_at_nth(nth)))
+        });
+        let handles = MadeHandles::of(handles.collect(), created);
+        let mut last = LastCalls::new(paused.chunk, self.retained_capacity(), times);
+        last.begin(true, self.sent_count());
+        last.begin_again(paused.calls, handles);
+        last
+    }
+}

@@ -1,0 +1,329 @@
+//! Reads a file of names, of this version or an earlier one. What a reader doesn't know is left
+//! out.
+
+use super::json::{self, Json};
+use super::{HeldBy, Sidecar, SourceLocation, VERSION_OF_TASKS, WaitingCall, tasks_seen, window};
+use crate::run::numbered::NumberMap;
+
+impl Sidecar {
+    /// Reads the text of a file of names. Keys that are not known are left out, and so are keys
+    /// that are missing.
+    ///
+    /// # Errors
+    ///
+    /// Returns what is wrong with the text, or that its version is a later one.
+    pub(crate) fn read(text: &str) -> Result<Sidecar, String> {
+        Sidecar::read_or(text, |_, fault| Err(fault))
+    }
+
+    /// The same, where a reader may leave out a key whose value has a fault: it is given the key
+    /// and the fault.
+    ///
+    /// # Errors
+    ///
+    /// Returns what is wrong with the text as a whole, or what the reader returns.
+    pub(crate) fn read_or(
+        text: &str,
+        leave: impl Fn(&str, String) -> Result<(), String>,
+    ) -> Result<Sidecar, String> {
+        let mut names = Sidecar::default();
+        for (key, value) in object(json::read(text)?)? {
+            let read = names.read_key(&key, value);
+            read.or_else(|fault| leave(&key, of_key(&key, fault)))?;
+        }
+        Ok(names)
+    }
+
+    fn read_key(&mut self, key: &str, value: Json) -> Result<(), String> {
+        if self.ending.read(key, &value)? {
+            return Ok(());
+        }
+        match key {
+            "version" => version(value),
+            "actors" => texts(value).map(|actors| self.actors = actors),
+            "channels" => texts(value).map(|channels| self.channels = channels),
+            "values" => by_number(value, texts).map(|values| self.values = values),
+            "handles" => by_number(value, texts).map(|handles| self.handles = handles),
+            "locations" => list(value, location).map(|list| self.locations = list),
+            "made" => by_number(value, indexes).map(|made| self.made = made),
+            "calls" => by_number(value, optional_indexes).map(|calls| self.calls = calls),
+            "callers" => by_number(value, indexes).map(|callers| self.callers = callers),
+            "tasks" => indexes(value).map(|tasks| self.tasks = tasks),
+            "waiting" => list(value, waiting).map(|waiting| self.waiting = waiting),
+            "waited_at_failure" => list(value, waiting).map(|waits| self.waited_at_failure = waits),
+            "dropped_waits" => list(value, waiting).map(|waits| self.dropped_waits = waits),
+            "dropped_at" => by_number(value, indexes).map(|drops| self.dropped_at = drops),
+            "dropped_in" => by_number(value, texts).map(|drops| self.dropped_in = drops),
+            "window" => window::window(value).map(|window| self.window = Some(window)),
+            "times" => window::times(value).map(|times| self.times = times),
+            "tasks_seen" => tasks_seen::read(value).map(|seen| self.tasks_seen = Some(seen)),
+            other => self.matching.read(other, value),
+        }
+    }
+
+    /// Returns the text of a file of names with this account of its run. What else it has stays,
+    /// also what isn't known here.
+    ///
+    /// # Errors
+    ///
+    /// Returns what is wrong with the text.
+    pub(crate) fn with_account(text: &str, account: &str) -> Result<String, String> {
+        let mut members = object(json::read(text)?)?;
+        members.retain(|(key, _)| key != "account");
+        members.push(("account".to_string(), json::read(account)?));
+        let mut out = String::new();
+        Json::Object(members).push(&mut out);
+        Ok(out + "\n")
+    }
+}
+
+fn of_key(key: &str, fault: String) -> String {
+    format!("its `{key}`: {fault}")
+}
+
+/// Refuses a version that may mean something else by the same keys.
+fn version(value: Json) -> Result<(), String> {
+    let version: u64 = number(value)?;
+    if version > VERSION_OF_TASKS {
+        Err(format!(
+            "{version} is later than {VERSION_OF_TASKS}, the last one that this program reads"
+        ))
+    } else {
+        Ok(())
+    }
+}
+
+pub(super) fn object(value: Json) -> Result<Vec<(String, Json)>, String> {
+    match value {
+        Json::Object(members) => Ok(members),
+        _ => Err("no object".to_string()),
+    }
+}
+
+/// Reads an object. Each member is taken once, by its name. One that isn't there is null.
+pub(super) fn members(value: Json) -> Result<impl FnMut(&str) -> Json, String> {
+    let mut members = object(value)?;
+    Ok(move |key: &str| {
+        let place = members.iter().rposition(|(name, _)| name == key);
+        place.map_or(Json::Null, |place| members.remove(place).1)
+    })
+}
+
+pub(super) fn text_of(value: Json) -> Result<String, String> {
+    match value {
+        Json::Text(text) => Ok(text),
+        _ => Err("no text".to_string()),
+    }
+}
+
+pub(super) fn number<N: TryFrom<u64>>(value: Json) -> Result<N, String> {
+    let number = match value {
+        Json::Number(number) => number.parse().ok(),
+        _ => None,
+    };
+    number
+        .and_then(|number: u64| N::try_from(number).ok())
+        .ok_or_else(|| "no number, or one that is too great".to_string())
+}
+
+pub(super) fn list<T>(
+    value: Json,
+    item: impl Fn(Json) -> Result<T, String>,
+) -> Result<Vec<T>, String> {
+    match value {
+        Json::List(items) => items.into_iter().map(item).collect(),
+        _ => Err("no list".to_string()),
+    }
+}
+
+/// Reads an object whose keys are numbers.
+pub(super) fn by_number<T>(
+    value: Json,
+    item: impl Fn(Json) -> Result<T, String>,
+) -> Result<NumberMap<u64, T>, String> {
+    let members = object(value)?.into_iter();
+    let numbered = members.map(|(key, value)| {
+        let number = key.parse().map_err(|_| format!("`{key}` is no number"))?;
+        Ok((number, item(value)?))
+    });
+    numbered.collect()
+}
+
+fn texts(value: Json) -> Result<NumberMap<u64, String>, String> {
+    by_number(value, text_of)
+}
+
+fn indexes(value: Json) -> Result<NumberMap<u64, usize>, String> {
+    by_number(value, number)
+}
+
+/// Reads a text, or null.
+pub(super) fn optional_text(value: Json) -> Result<Option<String>, String> {
+    match value {
+        Json::Null => Ok(None),
+        value => text_of(value).map(Some),
+    }
+}
+
+fn optional_indexes(value: Json) -> Result<Vec<Option<usize>>, String> {
+    list(value, optional)
+}
+
+/// Reads a number, or null.
+pub(super) fn optional<N: TryFrom<u64>>(value: Json) -> Result<Option<N>, String> {
+    match value {
+        Json::Null => Ok(None),
+        value => number(value).map(Some),
+    }
+}
+
+/// Reads a location: a list of file, line and column.
+fn location(value: Json) -> Result<SourceLocation, String> {
+    let mut parts = list(value, Ok)?.into_iter();
+    let mut next = || parts.next().unwrap_or(Json::Null);
+    Ok(SourceLocation {
+        file: text_of(next())?,
+        line: number(next())?,
+        column: number(next())?,
+    })
+}
+
+fn waiting(value: Json) -> Result<WaitingCall, String> {
+    let mut next = members(value)?;
+    Ok(WaitingCall {
+        actor: number(next("actor"))?,
+        channel: number(next("channel"))?,
+        handle: number(next("handle"))?,
+        call: text_of(next("call"))?,
+        since: number(next("since"))?,
+        location: optional(next("location"))?,
+        held_by: match next("held_by") {
+            Json::Null => None,
+            holder => Some(held_by(holder)?),
+        },
+        until: optional(next("until"))?,
+        waited: optional(next("waited"))?,
+    })
+}
+
+fn held_by(value: Json) -> Result<HeldBy, String> {
+    let mut next = members(value)?;
+    Ok(HeldBy {
+        actor: optional(next("actor"))?,
+        location: optional(next("location"))?,
+    })
+}
+
+#[cfg(test)]
+mod tests {
+    use super::*;
+
+    #[test]
+    fn each_key_is_read() {
+        let names = Sidecar::read(
+            r#"{
+                "version": 2,
+                "actors": {"0": "ticker", "12": "a \"b\""},
+                "channels": {"0": "prices"},
+                "values": {"0": {"0": "101 EUR", "1": "102 EUR"}},
+                "handles": {"0": {"1": "auditor"}},
+                "locations": [["tests/bus.rs", 15, 9], ["src/worker.rs", 30, 5]],
+                "made": {"0": {"0": 0, "1": 1}},
+                "calls": {"0": [1, null]},
+                "tasks": {"3": 1},
+                "waiting": [{"actor": 3, "channel": 0, "handle": 1, "call": "recv", "since": 12, "location": null, "held_by": {"actor": 0, "location": 1}}],
+                "dropped_waits": [{"actor": 3, "channel": 0, "handle": 1, "call": "recv", "since": 2, "location": 0, "until": 4, "waited": 30012}],
+                "dropped_at": {"0": {"1": 0}},
+                "dropped_in": {"0": {"1": "shop::read"}},
+                "later": [{}]
+            }"#,
+        )
+        .unwrap();
+        let location = |file: &str, line, column| SourceLocation {
+            file: file.to_string(),
+            line,
+            column,
+        };
+        let wanted = Sidecar {
+            actors: NumberMap::from([(0, "ticker".to_string()), (12, "a \"b\"".to_string())]),
+            channels: NumberMap::from([(0, "prices".to_string())]),
+            values: NumberMap::from([(
+                0,
+                NumberMap::from([(0, "101 EUR".to_string()), (1, "102 EUR".to_string())]),
+            )]),
+            handles: NumberMap::from([(0, NumberMap::from([(1, "auditor".to_string())]))]),
+            locations: vec![
+                location("tests/bus.rs", 15, 9),
+                location("src/worker.rs", 30, 5),
+            ],
+            made: NumberMap::from([(0, NumberMap::from([(0, 0), (1, 1)]))]),
+            calls: NumberMap::from([(0, vec![Some(1), None])]),
+            tasks: NumberMap::from([(3, 1)]),
+            waiting: vec![WaitingCall {
+                actor: 3,
+                channel: 0,
+                handle: 1,
+                call: "recv".to_string(),
+                since: 12,
+                location: None,
+                held_by: Some(HeldBy {
+                    actor: Some(0),
+                    location: Some(1),
+                }),
+                until: None,
+                waited: None,
+            }],
+            dropped_at: NumberMap::from([(0, NumberMap::from([(1, 0)]))]),
+            dropped_in: NumberMap::from([(0, NumberMap::from([(1, "shop::read".to_string())]))]),
+            dropped_waits: vec![WaitingCall {
+                actor: 3,
+                channel: 0,
+                handle: 1,
+                call: "recv".to_string(),
+                since: 2,
+                location: Some(0),
+                held_by: None,
+                until: Some(4),
+                waited: Some(30_012),
+            }],
+            ..Sidecar::default()
+        };
+        assert_eq!(names, wanted);
+    }
+
+    #[test]
+    fn a_file_of_an_older_version_is_read() {
+        // `core` said that another core than the proved one had answered.
+        let names = Sidecar::read(
+            r#"{"core": "plain", "actors": {}, "channels": {"1": "state"}, "values": {}}"#,
+        );
+        let wanted = Sidecar {
+            channels: NumberMap::from([(1, "state".to_string())]),
+            ..Sidecar::default()
+        };
+        assert_eq!(names, Ok(wanted));
+    }
+
+    #[test]
+    fn what_is_wrong_is_said_with_its_key() {
+        for (text, fault) in [
+            ("[]", "no object"),
+            ("{", "line 1: `\"` is missing"),
+            (
+                r#"{"actors": {"x": "a"}}"#,
+                "its `actors`: `x` is no number",
+            ),
+            (
+                r#"{"calls": {"0": [-1]}}"#,
+                "its `calls`: no number, or one that is too great",
+            ),
+            (
+                r#"{"locations": [["a.rs", 1]]}"#,
+                "its `locations`: no number, or one that is too great",
+            ),
+            (r#"{"waiting": {}}"#, "its `waiting`: no list"),
+        ] {
+            assert_eq!(Sidecar::read(text), Err(fault.to_string()), "{text}");
+        }
+    }
+}

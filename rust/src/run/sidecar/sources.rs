@@ -1,0 +1,111 @@
+//! The sources that the locations name.
+
+use super::{Sidecar, SourceLocation, checksum};
+use std::collections::BTreeSet;
+use std::fs;
+use std::path::{Path, PathBuf};
+
+/// How many sources are read at most.
+const MOST_SOURCES: usize = 256;
+
+/// How many bytes a source has at most that is read, and all of them together.
+const MOST_BYTES: u64 = 16_777_216;
+
+/// The parts of paths that the sources of others have: of the standard library, and of what cargo
+/// has downloaded.
+const OTHERS: [&str; 6] = [
+    "/.cargo/registry/",
+    "/.cargo/git/",
+    "/cargo/registry/",
+    "/git/checkouts/",
+    "/rustc/",
+    "/rustlib/",
+];
+
+/// Whether a source is one of the standard library, or of what cargo has downloaded.
+pub(crate) fn is_downloaded(file: &str) -> bool {
+    let file = file.replace('\\', "/");
+    OTHERS.iter().any(|other| file.contains(other))
+}
+
+impl SourceLocation {
+    /// Whether it is in the standard library, or in what cargo has downloaded.
+    pub(crate) fn is_downloaded(&self) -> bool {
+        is_downloaded(&self.file)
+    }
+}
+
+impl Sidecar {
+    /// Adds the folder that the paths of sources are relative to, and the checksums of those that
+    /// can be read below it. The folder is what this returns for these paths.
+    pub(crate) fn add_sources(&mut self, root_of: impl FnOnce(&[&Path]) -> Option<PathBuf>) {
+        let files: BTreeSet<_> = self.locations.iter().map(|at| at.file.as_str()).collect();
+        let paths: Vec<_> = files.iter().map(Path::new).collect();
+        let Some(root) = root_of(&paths) else {
+            return;
+        };
+        let mut left = MOST_BYTES;
+        let read = files.into_iter().take(MOST_SOURCES).filter_map(|file| {
+            let text = read_below(&root, file, left)?;
+            left -= text.len() as u64;
+            Some((file.to_string(), checksum(&text)))
+        });
+        self.ending.sources = read.collect();
+        self.ending.root = Some(root.to_string_lossy().into_owned());
+    }
+}
+
+/// Reads a source, if it is a file below this folder and has no more bytes than this.
+fn read_below(root: &Path, file: &str, most: u64) -> Option<Vec<u8>> {
+    let path = root.join(file);
+    let is_read = |length| path.starts_with(root) && length <= most;
+    let found = fs::metadata(&path).ok()?;
+    if !found.is_file() || !is_read(found.len()) {
+        return None;
+    }
+    fs::read(&path)
+        .ok()
+        .filter(|text| text.len() as u64 <= most)
+}
+
+#[cfg(test)]
+mod tests {
+    use super::*;
+    use crate::run::sidecar::SourceLocation;
+
+    fn at(file: &str) -> SourceLocation {
+        SourceLocation {
+            file: file.to_string(),
+            line: 1,
+            column: 1,
+        }
+    }
+
+    #[test]
+    fn sources_below_the_root_have_their_checksums() {
+        let this = file!();
+        let mut names = Sidecar {
+            locations: vec![
+                at("/rustc/1/library/core/src/panicking.rs"),
+                at(this),
+                at("gone.rs"),
+                at(this),
+            ],
+            ..Sidecar::default()
+        };
+        names.add_sources(|_| {
+            let mut above = Path::new(env!("CARGO_MANIFEST_DIR")).ancestors();
+            let root = above.find(|folder| folder.join(this).is_file());
+            root.map(Path::to_path_buf)
+        });
+        let root = names.ending.root.unwrap();
+        let text = fs::read(Path::new(&root).join(this)).unwrap();
+        assert!(text.starts_with(b"//! The sources that the locations name."));
+        let wanted = [(this.to_string(), checksum(&text))];
+        assert_eq!(names.ending.sources, wanted.into());
+        assert_eq!(
+            read_below(Path::new(&root), this, text.len() as u64 - 1),
+            None
+        );
+    }
+}
