@@ -8,6 +8,8 @@ import { chosenIn, listenToHands } from "./input/controls.js";
 import { keyRows, listenToKeys, showHelp } from "./input/keys.js";
 import { OWN, embeddedRun, exampleRun, hasEmbeddedRun, moduleBytes, workerText } from "./open/embedded.js";
 import { WayIn } from "./open/file_choice.js";
+import { filesChosenIn, filesDropped } from "./open/folders.js";
+import { isOfRun } from "./open/reading.js";
 import { Comparing } from "./open/comparing.js";
 import { Opener } from "./open/opener.js";
 import { recall } from "./open/stored_runs.js";
@@ -28,13 +30,19 @@ function listenToDrags(wayIn) {
   document.addEventListener("drop", event => {
     event.preventDefault();
     sign(false);
-    wayIn.take([...event.dataTransfer.files]);
+    filesDropped(event.dataTransfer, isOfRun).then(files => wayIn.take(files)).catch(tellFault);
   });
 }
 
 // Empties the field, since it reports a chosen file only if it differs from the last, and the same file may have changed.
 function chosenFiles(id) {
   const files = [...fieldOf(id).files];
+  fieldOf(id).value = "";
+  return files;
+}
+
+function chosenFolder(id) {
+  const files = filesChosenIn([...fieldOf(id).files], isOfRun);
   fieldOf(id).value = "";
   return files;
 }
@@ -76,6 +84,8 @@ function followHistory(opener, comparing) {
 function listen(opener, wayIn, comparing) {
   byId("choose").addEventListener("click", () => byId("file").click());
   byId("file").addEventListener("change", () => wayIn.take(chosenFiles("file")));
+  byId("choose-folder").addEventListener("click", () => byId("folder").click());
+  byId("folder").addEventListener("change", () => wayIn.take(chosenFolder("folder")));
   byId("compare").addEventListener("click", () => byId("other-file").click());
   byId("other-file").addEventListener("change", () => comparing.take(chosenFiles("other-file")).catch(tellFault));
   byId("compare-both").addEventListener("click", () => wayIn.compare().catch(tellFault));
@@ -105,18 +115,21 @@ function answersOf(client) {
 function openAtFirst(opener, comparing) {
   if (runInHistory() === undefined) setRun(hasEmbeddedRun() ? OWN : null);
   if (runInHistory() !== null) openInHistory(opener, comparing).catch(tellFault);
+  else showPart("welcome");
 }
 
-// Calls a function once the browser has read the page's file.
-function onceRead(call) {
-  if (document.readyState === "loading") document.addEventListener("DOMContentLoaded", call);
-  else call();
+// Calls a function once the browser has read the page's file. Of a long run that takes a while.
+async function onceRead(call) {
+  const isRead = () => document.readyState !== "loading" || new Promise(done => document.addEventListener("DOMContentLoaded", done));
+  await during(["reading the page"], isRead);
+  call();
 }
 
 // The debugger starts while the browser still reads the run, which is after this script in the page's file.
 function start() {
   byId("key-list").replaceChildren(...keyRows());
   if (typeof WebAssembly === "undefined") {
+    byId("busy").hidden = true;
     tell("This browser has no WebAssembly, which the page needs. Some have it turned off, as Safari has in its Lockdown Mode.");
     return;
   }

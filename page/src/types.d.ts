@@ -69,7 +69,7 @@ interface Account {
   version: number;
   unknown: string[];
   facts: {
-    kind: string; channel: number; receiver?: number; text: string[];
+    kind: string; channel: number; receiver?: number; handle?: number; lost?: number; end?: string; changes?: number; text: string[];
     places: { place: number; line: number; role?: string; location?: [string, number, number] | null }[];
   }[];
   rest: { after: number; text: string | null };
@@ -79,8 +79,8 @@ interface Account {
   waiting: { text: string; since: number; actor?: number; channel?: number; handle?: number; location?: [string, number, number] | null }[];
   /** The tasks that wait for something else than a call. */
   tasks: { text: string }[];
-  /** How the test failed, with its line. */
-  failed: { text: string; place: number; location?: [string, number, number] | null } | null;
+  /** How the test failed, with its line. Later writers have the test's name, the text of its panic as it is, and the last call before it too. */
+  failed: { text: string; place: number; location?: [string, number, number] | null; name?: string; message?: string; call?: number | null } | null;
   failure: number | null;
   look: number;
 }
@@ -177,6 +177,8 @@ interface Row {
   lane: number;
   base: number;
   actor?: number;
+  /** What its handle has to do with what the account tells first, if it has. */
+  part?: import("./draw/parts.js").Part;
 }
 
 /** A channel's rows, or those of the actors, below their head. */
@@ -188,6 +190,8 @@ interface Band {
   rows: Row[];
   rowOf: Map<number, Row>;
   isFolded: boolean;
+  /** Where its rows are if they stay in sight over others. */
+  pins?: { y: number; height: number };
 }
 
 /**

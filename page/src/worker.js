@@ -1,7 +1,7 @@
 // The engine, in a thread beside the page's own: each request is a message, and gets one message as its reply.
 
 import { inflated } from "./base/inflating.js";
-import { Engine } from "./worker/engine.js";
+import { Closed, Engine } from "./worker/engine.js";
 import { comparedWith, foundIn, hitsOf, levelsIn, salvagedFrom, statesAt } from "./worker/found.js";
 import { openRun } from "./worker/opening.js";
 
@@ -18,8 +18,13 @@ const requests = {
     starting = inflated(packed, "deflate").then(module => { engine = new Engine(module); });
     return starting;
   },
-  open(bytes, places) {
-    const opened = openRun(engine, bytes, places);
+  // A piece of the text that is opened next, where it begins, and how long all of it is. The buffer goes back to the page.
+  piece(bytes, at, length) {
+    engine.write(bytes, at, length);
+    return new Uint8Array(bytes.buffer);
+  },
+  open(places) {
+    const opened = openRun(engine, null, places);
     channels = opened.lives?.length ?? 0;
     return opened;
   },
@@ -53,6 +58,6 @@ self.onmessage = async ({ data: { number, request, values } }) => {
     const answer = await requests[request](...values);
     self.postMessage({ number, answer }, { transfer: handedOver(answer) });
   } catch (error) {
-    self.postMessage({ number, fault: error.message });
+    self.postMessage({ number, fault: error.message, isClosed: error instanceof Closed });
   }
 };

@@ -80,7 +80,7 @@ def made_as_why_says(tab, folder, journals):
 
 
 # Each address of a place in the sources in the answer, and the text that its button copies.
-LINKS = "[...document.querySelectorAll('#answer .source')].map(it => [it.querySelector('a')?.getAttribute('href') ?? null, it.querySelector('.copy').dataset.copy])"
+LINKS = "[...document.querySelectorAll(':is(#failed, #answer) .source')].map(it => [it.querySelector('a')?.getAttribute('href') ?? null, it.querySelector('.copy').dataset.copy])"
 
 
 def names_beside(page):
@@ -89,20 +89,19 @@ def names_beside(page):
 
 
 def open_in_the_editor(tab, folder, journals):
-    """Each step of the answer that has a place in the sources links to it in VS Code, below the root of the names, and its button copies it. So does
-    the place of the panic. Another editor is kept for the next time, and what is no editor's address makes no link."""
+    """The place of the failure, and of each step of the answer that has one in the sources, links to it in VS Code, below the root of the names, and its
+    button copies it. Another editor is kept for the next time, and what is no editor's address makes no link."""
     page, place = failing.addresses()["no_price_is_missing"]
     names = names_beside(page)
     places = [names["account"]["failed"]["location"]]
     places += [it["location"] for fact in names["account"]["facts"] for it in fact["places"] if it["location"]]
-    places += [names["locations"][it["location"]] for it in names["panics"]]
     opening.load(tab, page, place)
     assert len(places) == 4 and tab.run(LINKS) == [
         [f"vscode://file{names['root']}/{file}:{line}:{column}", f"{file}:{line}:{column}"] for file, line, column in places], tab.run(LINKS)
     said = tab.run("document.querySelector('#sentence .source a').href")
     assert said == f"vscode://file{names['root']}/src/lib.rs:{failing.line_of('a price is sent').split(':')[1]}:20", said
     tab.run("Object.defineProperty(navigator, 'clipboard', { value: { writeText: async text => { window.copied = text; } } })")
-    tab.click("#answer .copy")
+    tab.click("#failed .copy")
     tab.wait(f"window.copied === '{':'.join(map(str, places[0]))}'")
     for form, address in (("idea://open?file={path}&line={line}", "idea://open?file=%s/%s&line=%d"), ("javascript:alert({line})", None)):
         tab.click("#help-button")
@@ -140,14 +139,14 @@ def answer_on_a_phone(tab, folder, journals):
         for name in ("no_price_is_missing", "each_state_is_seen", failing.HANGS):
             page, place = failing.addresses()[name]
             opening.load(tab, page, place)
-            shown = tab.run("['answer-box', 'left', 'state'].map(name => document.getElementById(name).checkVisibility())")
-            assert shown == [True, False, False], (width, name, shown)
+            shown = tab.run("['answer-box', 'picture', 'slider', 'state'].map(name => document.getElementById(name).checkVisibility())")
+            assert shown == [True, height == 844, False, False], (width, name, shown)
             first = tab.run("document.querySelector('#answer [data-place]').getBoundingClientRect().toJSON()")
             assert 0 <= first["top"] and first["bottom"] <= height and 0 <= first["left"] and first["right"] <= width, (width, name, first)
             step = tab.run("Number(document.querySelector('#answer [data-place]').dataset.place)")
             tab.click("#answer [data-place]")
             opening.settle(tab, step)
-            assert tab.run("document.getElementById('left').checkVisibility()")
+            assert tab.run("document.getElementById('slider').checkVisibility()")
             assert tab.run("document.getElementById('picture').height") > height / 6, (width, height)
     tab.resize(1440, 920)
 

@@ -313,7 +313,7 @@ def both_in_the_page(tab, folder, journals):
     tab.click("#compare-both")
     wanted = failing.command("why", failed[0], "--against", passed[0]).splitlines()
     assert wanted[0] == "the first difference: call 7, `audit` received before 2 sends in the passing run", wanted
-    assert shown(tab) == wanted
+    assert shown(tab) == [failing.shown(wanted[0]), *wanted[1:]]
     opening.settle(tab, 7)
     assert tab.text("facts").startswith("failed.journal"), tab.text("facts")
     assert tab.text("other-line") == "the passing run: passed.journal"
@@ -347,7 +347,7 @@ def with_another(tab, folder, journals):
     tab.wait('document.getElementById("notice").textContent.startsWith("broken.journal can\'t be compared. Line 2: the ")')
     choose(tab, "#other-file", failed)
     lines = shown(tab)
-    assert lines[0] == "the first difference: call 4 of the failing run, `checkout` doesn't make it here", lines
+    assert lines[0] == "the first difference: call 4 of the failing run, checkout doesn't make it here", lines
     assert lines[-1] == "3 calls here, 8 calls there: 5 only there", lines
     tab.wait("document.querySelector('#slider').max === '3'")
     choose(tab, "#other-file", passed)

@@ -1,5 +1,9 @@
 """A long journal: its first calls are shown while all of it is read."""
+import base64
 import functools
+import json
+import os
+import zlib
 
 import native
 import opening
@@ -8,14 +12,25 @@ from opening import check_place
 
 CALLS = 300_000
 
+# Counts the bytes that are unpacked.
+UNPACKED = """(() => {
+    const { read } = ReadableStreamDefaultReader.prototype;
+    window.unpacked = 0;
+    ReadableStreamDefaultReader.prototype.read = async function () {
+        const got = await read.call(this);
+        window.unpacked += got.value?.length ?? 0;
+        return got;
+    };
+})()"""
+
 # Stores what is shown at first.
 WATCH = """new MutationObserver((_, observer) => {
     observer.disconnect();
     const text = name => document.getElementById(name).textContent;
     const walk = document.getElementById('walk'), canvas = document.getElementById('picture');
     window.first = {
-        isBusy: walk.getAttribute('aria-busy'), place: text('place'), facts: text('facts'), line: text('loss-line'), calls: text('calls'), state: text('state'),
-        hasPicture: canvas.getContext('2d').getImageData(0, 0, canvas.width, canvas.height).data.some(byte => byte > 0),
+        unpacked: window.unpacked, isBusy: walk.getAttribute('aria-busy'), place: text('place'), facts: text('facts'), line: text('loss-line'), calls: text('calls'), state: text('state'),
+        last: document.getElementById('slider').max, hasPicture: canvas.getContext('2d').getImageData(0, 0, canvas.width, canvas.height).data.some(byte => byte > 0),
     };
     if (window.first.isBusy) document.dispatchEvent(new KeyboardEvent('keydown', { key: 'ArrowRight' }));
 }).observe(document, { subtree: true, attributes: true, attributeFilter: ['data-place'] })"""
@@ -38,14 +53,17 @@ def all_read(tab):
 
 
 def first_calls(tab, folder, journals):
-    """At first the state and the calls at the start are shown, without counts of what isn't read, and no key moves. They stay when all is read."""
-    tab.call("Page.addScriptToEvaluateOnNewDocument", source=WATCH)
+    """At first the state and the calls at the start are shown, without counts of what isn't read, and no key moves. They stay when all is read. They are
+    there before all is unpacked, on the axis of all calls."""
+    for source in (UNPACKED, WATCH):
+        tab.call("Page.addScriptToEvaluateOnNewDocument", source=source)
     ask = opening.asker(journal())
     tab.load(opening.page_of(folder, "long.journal", journal()), 0)
     tab.wait("window.first", 60)
     all_read(tab)
     first = tab.run("window.first")
-    assert first["isBusy"] == "true" and first["hasPicture"], first
+    assert first["isBusy"] == "true" and first["hasPicture"] and first["last"] == str(CALLS), first
+    assert first["unpacked"] < 1 << 20 and tab.run("window.unpacked") == len(journal()), (first["unpacked"], tab.run("window.unpacked"))
     assert first["place"] == "before call 1" and first["facts"] == "long.journal", first
     assert first["line"] == "the first calls: what was lost is counted when all of them are read", first
     assert [first["calls"], first["state"]] == [tab.text("calls"), tab.text("state")]
@@ -76,4 +94,25 @@ def late_faults(tab, folder, journals):
     assert tab.text("place") == "before call 1", tab.text("place")
 
 
-TESTS = [first_calls, far_places, late_faults]
+def packed_by_open(tab, folder, journals):
+    """page/open packs a long journal and its names, and the page has both. A page whose file doesn't say how many calls there are shows the first of them too."""
+    names = json.dumps({"channels": {"0": "ticks"}, "actors": {"0": "ticker"}}).encode()
+    opening.put(folder, "long.names", names)
+    path = opening.page_of(folder, "long.journal", journal())
+    with open(path, "rb") as file:
+        page = file.read()
+    packed = sum(4 * len(zlib.compress(text)) / 3 for text in (journal(), names))
+    assert len(page) - os.path.getsize(native.PAGE) < 1.05 * packed, (len(page), packed)
+    counts = base64.b64encode(f"{CALLS} {len(journal())}".encode()) + b"\n"
+    assert page.count(counts) == 1
+    tab.call("Page.addScriptToEvaluateOnNewDocument", source=WATCH)
+    for number, text in enumerate((page, page.replace(counts, b""))):
+        tab.load(opening.put(folder, f"{number}.html", text), 0)
+        tab.wait("window.first", 60)
+        all_read(tab)
+        assert tab.run("[first.isBusy, first.last]") == ["true", str(CALLS)]
+        assert tab.text("facts").startswith(f"long.journal · {CALLS:,} calls · 2 channels"), tab.text("facts")
+        assert "ticks" in tab.text("state")
+
+
+TESTS = [first_calls, far_places, late_faults, packed_by_open]

@@ -174,10 +174,11 @@ class Tab:
         self.call("Input.insertText", text=text)
 
     def drop(self, *paths):
-        """Drops files in the middle of the page."""
+        """Drops files on the lower half of the page, where a run has its picture: an element that is made again meanwhile would get no drop."""
+        x, y = self.run("[Math.round(innerWidth * 0.3), Math.round(innerHeight * 0.7)]")
         data = {"items": [], "files": list(paths), "dragOperationsMask": 1}
         for kind in ("dragEnter", "dragOver", "drop"):
-            self.call("Input.dispatchDragEvent", type=kind, x=400, y=300, data=data)
+            self.call("Input.dispatchDragEvent", type=kind, x=x, y=y, data=data)
 
     def picture(self, path, name=None):
         """Writes a picture of the window, or of one element of the page."""

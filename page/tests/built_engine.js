@@ -4,7 +4,11 @@ import { inflateSync } from "node:zlib";
 import { Engine } from "../src/worker/engine.js";
 
 const page = readFileSync(new URL("../../rust/built/yovanelum.html", import.meta.url), "utf8");
-const module = inflateSync(Buffer.from(/<script type="text\/plain" id="module">([^<]*)</.exec(page)[1], "base64"));
+
+// The module as the page has it.
+export const packedModule = Uint8Array.from(Buffer.from(/<script type="text\/plain" id="module">([^<]*)</.exec(page)[1], "base64"));
+
+const module = inflateSync(packedModule);
 
 export function builtEngine() {
   return new Engine(module);

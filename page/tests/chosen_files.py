@@ -1,6 +1,5 @@
 """Files that are opened in the page: chosen, dropped, several at once, or such that can't be opened."""
 import json
-import os
 
 import native
 import opening
@@ -17,11 +16,11 @@ def told(tab, name, beginning):
     tab.wait(f"document.getElementById('{name}').textContent.startsWith({json.dumps(beginning)})")
 
 
-def choose(tab, path):
-    """Chooses a file in the page's field, as its button does."""
+def choose(tab, *paths, name="#file"):
+    """Chooses files in the page's field, as its button does."""
     root = tab.call("DOM.getDocument")["root"]["nodeId"]
-    field = tab.call("DOM.querySelector", nodeId=root, selector="#file")["nodeId"]
-    tab.call("DOM.setFileInputFiles", nodeId=field, files=[path])
+    field = tab.call("DOM.querySelector", nodeId=root, selector=name)["nodeId"]
+    tab.call("DOM.setFileInputFiles", nodeId=field, files=list(paths))
 
 
 def empty_page(tab):
@@ -41,7 +40,7 @@ def chosen_again(tab, folder, journals):
 
 
 def drop_with_names(tab, folder, journals):
-    """A journal is dropped together with its file of names, in either order. A drop of a folder is reported."""
+    """A journal is dropped together with its file of names, in either order."""
     journal = opening.put(folder, "named.journal", journals[63])
     names = opening.put(folder, "named.names", runs.example_file("price_feed.names"))
     for files in ([journal, names], [names, journal]):
@@ -52,9 +51,6 @@ def drop_with_names(tab, folder, journals):
         tab.key("l")
         opening.settle(tab, 23)
         assert tab.text("sentence").startswith("sa slow auditor on prices: recv 2 → lagged 2"), tab.text("sentence")
-    tab.drop(folder)
-    told(tab, "notice", f"{os.path.basename(folder)} can't be read: ")
-    opening.settle(tab, 23)
 
 
 def note_on_the_core(tab, folder, journals):

@@ -2,7 +2,7 @@
 
 import assert from "node:assert/strict";
 import test from "node:test";
-import { Fault } from "../src/worker/engine.js";
+import { Closed, Fault } from "../src/worker/engine.js";
 import { hitsOf, levelsIn, lossesOf, salvagedFrom, statesAt } from "../src/worker/found.js";
 import { openRun } from "../src/worker/opening.js";
 import { builtEngine, journalOf, opened } from "./built_engine.js";
@@ -67,15 +67,29 @@ test("each entry of a long run is answered", () => {
   assert.equal(opened(sends(120_000)).textOf("ask", "list\n").split("\n").length, 120_001);
 });
 
-test("after a trap the run and its names are there again, and memory isn't blamed", () => {
+test("after a trap no run is open in a fresh instance, and memory isn't blamed", () => {
   const engine = opened(sends(3), { actors: { 0: "shop" } });
-  const wanted = engine.textOf("account");
   const { input } = engine.exports;
   engine.exports = { ...engine.exports, account: () => { throw new WebAssembly.RuntimeError("unreachable"); } };
   assert.throws(() => engine.textOf("account"), { message: "unreachable" });
   assert.notEqual(engine.exports.input, input);
-  assert.equal(engine.textOf("account"), wanted);
-  assert.match(wanted, /shop/);
+  assert.throws(() => engine.textOf("account"), error => error instanceof Closed && error.message === "no run is open");
+  engine.open(bytes(sends(3)));
+  assert.doesNotMatch(engine.textOf("account"), /shop/);
+});
+
+test("a text that is written in pieces is opened when all are there, and a trap between them leaves no room for the next", () => {
+  const engine = opened(sends(3));
+  const text = bytes(sends(5));
+  const pieces = [0, 20, 40].map(at => [text.subarray(at, at === 40 ? text.length : at + 20), at, text.length]);
+  for (const piece of pieces) {
+    engine.write(...piece);
+    assert.equal(engine.textOf("ask", "list\n").split("\n").length, 4, "the run before it is open");
+  }
+  assert.equal(openRun(engine, null, []).lastPlace, 5);
+  engine.write(...pieces[0]);
+  engine.start();
+  assert.throws(() => engine.write(...pieces[1]), { message: "no memory" });
 });
 
 test("memory that was refused is said", () => {
@@ -84,6 +98,7 @@ test("memory that was refused is said", () => {
   assert.throws(() => lossesOf(engine, 3), { message: "no memory" });
   // More than a module has.
   assert.throws(() => engine.put({ byteLength: 2 ** 32 - 1 }), { message: "no memory" });
+  assert.throws(() => engine.write(new Uint8Array(1), 0, 2 ** 32 - 1), { message: "no memory" });
   assert.equal(engine.exports.refused(), 0, "the room for an input is asked for, and may be refused");
 });
 
@@ -126,4 +141,14 @@ test("a text is found in the words of calls and replies, behind a lead by the re
   const window = { trigger: "call", reason: "asked", at: null, lead: 1, channels: { 0: { lead: 1, calls: 90, sent: 40, handles: [0, null, 55], lags: {} } } };
   const dump = opened(journalOf(["broadcast 2"], entries), { version: 4, window });
   assert.deepEqual(["new", "try-recv 55", "receiver-len 1 of the lead"].map(text => find(dump, text)), [[], [3], [5]]);
+});
+
+test("a text is found in a line that differs from an earlier one in its numbers or in a flag", () => {
+  const nothing = { actors: new Uint8Array(1), channels: new Uint8Array(2), locations: new Uint8Array(), handles: [[], []], values: [[], []] };
+  const entries = ["0 0 send 0 7 = sent 1", "0 0 send 0 12 = sent 1", "0 0 try-recv 1 = value 7", "0 0 try-recv 1 = value 12",
+    "0 1 modify 0 3 no = told no", "0 1 modify 0 4 yes = told yes", "0 1 send 0 12 = stored"];
+  const engine = opened(journalOf(["broadcast 2", "watch 0"], entries));
+  const wanted = { "send 0 12": [2, 7], "e 12": [4], " 12": [2, 4, 7], no: [5], yes: [6], "told yes": [6], "3 n": [5], "send 0 3": [], 9: [], "12 = ": [], stored: [7], thumbnail: [] };
+  const found = Object.fromEntries(Object.keys(wanted).map(text => [text, [...hitsOf(engine, { text, ...nothing })]]));
+  assert.deepEqual(found, wanted);
 });

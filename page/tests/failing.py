@@ -91,7 +91,7 @@ WANTED = {
           ' call 3 prices.send("103 EUR") ticker {a price is sent} overwrote "101 EUR", which auditor had not read',
           " call 7 told: lagged 3 no_price_is_missing {the auditor is told} its last receive: none before", ' lost: "101 EUR", "102 EUR", "103 EUR"'],
          ["`prices` closed, and its receiver has not read that far",
-          " call 6 dropped the last sender ticker in shop::publish::{{closure}}", " not that far: `auditor`"]],
+          " call 6 dropped the last sender ticker {the ticker ends} in shop::publish::{{closure}}", " not that far: `auditor`"]],
         {"0 1": (3, 3)}, rest="and 1 channel closed"),
     "the_log_is_read": Wanted(
         {"the_log_is_read"}, ["jobs"], {"0 1": "log · receiver 1", "0 2": "idle · receiver 2"}, {f"job {number}" for number in range(1, 5)},
@@ -148,7 +148,7 @@ WANTED = {
           f' call 1 state.send("busy!") {HANGS} {{the state is busy}} the last change', " call 2 state.wait_for worker {the worker waits} waits",
           f" senders: sender 0 of {{the state is made}} (last used at call 1 by {HANGS})"]],
         waiting=["worker in `state.wait_for` since call 2, {the worker waits}"],
-        besides=["`state` has busy! and 1 sender at the end"]),
+        besides=["state has busy! and 1 sender at the end"]),
     "the_second_task_gets_the_first_order": Wanted(
         {"the_second_task_gets_the_first_order", "runtime", "task 7", "reader", "till", "audit"}, ["orders"],
         {"0 1": "first · receiver 1", "0 2": "second · receiver 2"}, {"order 71", "order 72", "order 73"},
@@ -163,7 +163,7 @@ WANTED = {
           " call 6 told: lagged 1 till {an order is received} its last receive: none before", ' lost: "order 71"',
           " late: it isn't polled by a task that is seen"],
          ["`orders` closed, and its receiver has not read that far",
-          " call 5 dropped the last sender runtime in failing::the_second_task_gets_the_first_order::{{closure}}", " not that far: `second`"]],
+          " call 5 dropped the last sender runtime {the runtime ends} in failing::the_second_task_gets_the_first_order::{{closure}}", " not that far: `second`"]],
         {"0 1": (1, 1), "0 2": (1, 1)}, rest="and 1 channel closed"),
     "both_clerks_get_the_first_order": Wanted(
         {"both_clerks_get_the_first_order", "shop", "till", "audit"}, ["orders"], {"0 1": "till · receiver 1", "0 2": "audit · receiver 2"},
@@ -213,14 +213,15 @@ WANTED = {
           " lost: its 540001st value, its 540002nd value"]],
         {"0 2": (2, 2)}, unknown=["524288 calls came before the window"]),
     LAST_BUS: Wanted(
-        {LAST_BUS}, [f"channel {number}" for number in range(64)], {f"{number} 1": "receiver 1" for number in range(64)}, set(), [], [],
+        {LAST_BUS}, [f"channel {number} of {{all but one are created}}" for number in range(64)], {f"{number} 1": "receiver 1" for number in range(64)}, set(), [], [],
         unknown=["1 channel was not recorded, since 64 were alive"], nothing="nothing was found in 128 calls on 64 channels"),
 }
 
 
+@functools.cache
 def make_package():
-    """Writes the package into the tests' output folder. What was built of it before stays."""
-    for name in ("src/lib.rs", "src/bin/why.rs", "tests/failing.rs"):
+    """Writes the package into the tests' output folder, once. What was built of it before stays."""
+    for name in ("src/lib.rs", "src/bin/why.rs", "tests/failing.rs", "tests/first_look.rs"):
         path = os.path.join(PACKAGE, name)
         os.makedirs(os.path.dirname(path), exist_ok=True)
         shutil.copyfile(os.path.join(SOURCES, name), path)
@@ -235,8 +236,9 @@ def make_package():
 
 
 def environment():
-    """That of a user: without the variables of this crate, and with cargo's own folder for what it builds."""
-    kept = {key: value for key, value in os.environ.items() if key != "CARGO_TARGET_DIR" and not key.startswith("YOVANELUM_")}
+    """That of a user: without the variables of this crate, and with cargo's own folder for what it builds, and its debug information."""
+    ours = {"CARGO_TARGET_DIR", "CARGO_PROFILE_DEV_DEBUG"}
+    kept = {key: value for key, value in os.environ.items() if key not in ours and not key.startswith("YOVANELUM_")}
     return {**kept, "RUST_BACKTRACE": "0"}
 
 
@@ -249,9 +251,9 @@ def said_by_failing():
     return done.stdout
 
 
-def said_by_hanging():
-    """What the watchdog says of the test that hangs, up to its address. Then the test is ended, with all that was started for it."""
-    running = subprocess.Popen([*CARGO, HANGS], cwd=PACKAGE, env=environment(), stdout=subprocess.DEVNULL, stderr=subprocess.PIPE, text=True,
+def said_by_hanging(command=(*CARGO, HANGS)):
+    """What the watchdog says of a test that hangs, up to its address. Then the test is ended, with all that was started for it."""
+    running = subprocess.Popen(command, cwd=PACKAGE, env=environment(), stdout=subprocess.DEVNULL, stderr=subprocess.PIPE, text=True,
                                start_new_session=True)
     end = functools.partial(os.killpg, running.pid, signal.SIGKILL)
     timer = threading.Timer(PATIENCE, end)
@@ -307,10 +309,10 @@ def why(page, *words):
     return command("why", beside(page, ".journal"), *words)
 
 
-def line_of(comment):
+def line_of(comment, names=("src/lib.rs", "tests/failing.rs")):
     """The place in the package's sources whose line ends with this comment."""
     found = []
-    for name in ("src/lib.rs", "tests/failing.rs"):
+    for name in names:
         with open(os.path.join(SOURCES, name), encoding="utf-8") as file:
             found += [f"{name}:{number}" for number, line in enumerate(file, 1) if line.endswith(f" // {comment}\n")]
     assert len(found) == 1, (comment, found)
@@ -381,6 +383,14 @@ def check_account(name, page):
     return account
 
 
+def shown(line):
+    """A line of the account as the page shows it: without the backquotes around names, and with counts grouped. A call's number in snapshots isn't one."""
+    line = re.sub(r"`([^`]+)`", r"\1", line)
+    parts = re.split(r'("(?:[^"\\]|\\.)*")', line)
+    parts[::2] = [re.sub(r"\b\d{4,}\b(?![:-]|(?: to \d+)? in snapshots)", lambda count: f"{int(count[0]):,}", part) for part in parts[::2]]
+    return "".join(parts)
+
+
 # What the page shows of the account, and whether it is open.
 ANSWER = """(() => {
     const lines = part => [...part.querySelectorAll('.line')].map(line => line.textContent);
@@ -398,16 +408,35 @@ def check_answer_text(tab, account):
     answer = tab.run(ANSWER)
     window = [account["window"]["text"]] if "window" in account else []
     unknown = window + [f"not all is known: {'; '.join(account['unknown'])}"] if account["unknown"] else []
-    assert answer == {
-        "isOpen": True, "facts": [fact["text"] for fact in account["facts"]], "waits": [f"  {it['text']}" for it in account["waiting"]],
-        "others": unknown + ([account["nothing"]] if account["nothing"] else []), "rest": account["rest"]["text"],
+    others = unknown + ([account["nothing"]] if account["nothing"] else [])
+    wanted = {
+        "isOpen": True, "facts": [[shown(line) for line in fact["text"]] for fact in account["facts"]],
+        "waits": [shown(f"  {it['text']}") for it in account["waiting"]], "others": [shown(line) for line in others],
+        "rest": account["rest"]["text"] and shown(account["rest"]["text"]),
         "folded": len(account["facts"]) - account["rest"]["after"],
-    }, answer
+    }
+    assert answer == wanted, {key: (answer[key], wanted[key]) for key in wanted if answer[key] != wanted[key]}
 
 
 # The lines of the answer from top to bottom, without what is folded, what the page adds to a fact, and how the test ended in full.
-ANSWER_LINES = """[...document.querySelectorAll('#answer-box :is(.line, p, .rest summary, .waits b)')].filter(line => !line.closest('.rest .fact, .ends'))
+ANSWER_LINES = """[...document.querySelectorAll('#answer-box :is(.line, p, .rest > summary, .waits h3)')].filter(line => !line.closest('.rest .fact, .ends'))
     .map(line => line.textContent)"""
+# The head of the page: the words in it, each with single spaces.
+HEAD = "document.getElementById('failed').innerText.replace(/\\s+/g, ' ').trim()"
+
+
+def head_of(failed):
+    """The head of the page for a failure as the account has it: the name, where it failed, the panic's text, and the call before it."""
+    text, _, call = failed["text"].partition(f"; call {failed['call']} was ") if failed["call"] is not None else (failed["text"], "", "")
+    assert text.startswith(f"{failed['name']} at {failed['location'][0]}:{failed['location'][1]}: "), failed
+    first, *sides = re.split(r"\n (?= left: |right: )", failed["message"])
+    said = [f"{failed['name']} failed at {failed['location'][0]}:{failed['location'][1]}", shown(first)] + ([f"call {failed['call']:,} was {call}"] if call else [])
+    return " ".join(" ".join([*said, *(side.replace(": ", " ", 1) for side in sides)]).split())
+
+
+def hang_of(name, account):
+    """The head of the page for a test that hangs: its name, and which calls still wait, in the words of the report."""
+    return " ".join([f"{name} hangs", *(shown(f"still waiting: {it['text']}") for it in account["waiting"][:3])])
 
 
 def report_lines(printed):
@@ -425,11 +454,14 @@ def report_lines(printed):
 def check_order(tab, name, page):
     """From top to bottom the page has the lines of what the test printed, or of what `why` prints where a watchdog told less."""
     printed = why(page).split("\nlook: ")[0].split("\n") if name == HANGS else report_of(name)
-    shown, wanted = tab.run(ANSWER_LINES), list(report_lines(printed))
-    if any(line.startswith("  ") and " since " in line for line in shown) and "still waiting:" not in wanted:
+    there, wanted = tab.run(ANSWER_LINES), [shown(line) for line in report_lines(printed) if not line.startswith("failed: ")]
+    if any(line.startswith("  ") and " since " in line for line in there) and "still waiting:" not in wanted:
         # A call of which a fact tells isn't listed again in print.
-        shown = shown[:shown.index("still waiting:")]
-    assert shown == wanted, (shown, wanted)
+        there = there[:there.index("still waiting:")]
+    assert there == wanted, (there, wanted)
+    account = json.loads(why(page, "--json"))
+    head = head_of(account["failed"]) if account["failed"] else hang_of(name, account) if name == HANGS else ""
+    assert tab.run(HEAD) == head, (tab.run(HEAD), head)
 
 
 def check_answer(tab, account):
@@ -440,8 +472,8 @@ def check_answer(tab, account):
     for index, place in enumerate(places):
         tab.run(f"document.querySelectorAll('#answer .fact [data-place]')[{index}].click()")
         opening.settle(tab, place["place"])
-        # A panic, and a call in its first poll, stand beside a step of the journal: its sentence has the step's own place.
-        is_beside = place["role"] in ("failure", "panic", "begin")
+        # A panic, a call in its first poll, and the end of what has a sender stand beside a step of the journal: its sentence has the step's own place.
+        is_beside = place["role"] in ("failure", "panic", "begin", "close")
         source = place["location"] and not is_beside and f" at {place['location'][0]}:{place['location'][1]}"
         assert not source or source in tab.run("document.getElementById('sentence').textContent"), (place, tab.text("sentence"))
 
@@ -529,7 +561,7 @@ def check_page(tab, name):
     assert besides == wanted.besides, besides
     actors = tab.run(ACTORS)
     assert {actor.split(",")[0] for actor in actors} == wanted.actors, actors
-    assert tab.run(CHANNELS) == wanted.channels, tab.run(CHANNELS)
+    assert tab.run(CHANNELS) == [placed(channel) for channel in wanted.channels], tab.run(CHANNELS)
     if name == FULL:
         return
     calls, texts = walked(tab)
@@ -586,7 +618,8 @@ def account_of_an_opened_journal(tab, folder, journals):
 
 
 def ends_of_tests(tab, folder, journals):
-    """Below what was found is how the test failed: each panic with who panicked, where, and what it says, as the file of names has it."""
+    """Below what was found is how the test ended besides the failure, which is the head of the page: each other panic with who panicked, where, and
+    what it says, as the file of names has it."""
     count = 0
     for name, (page, _) in addresses().items():
         with open(beside(page, ".names"), encoding="utf-8") as file:
@@ -595,12 +628,17 @@ def ends_of_tests(tab, folder, journals):
             continue
         opening.load_first(tab, page)
         lines = tab.run("[...document.querySelectorAll('#answer .ends .line')].map(line => line.textContent)")
-        panics = names.get("panics", [])
+        failed = names["account"]["failed"]
+        head = head_of(failed) if failed else hang_of(name, names["account"]) if name == HANGS else ""
+        assert tab.run(HEAD) == head and tab.run("document.getElementById('failed').hidden") == (head == ""), (name, tab.run(HEAD))
+        is_failure = lambda it: failed and it["text"] == failed["message"] and names["locations"][it["location"]] == failed["location"]
+        count += sum(map(bool, map(is_failure, names.get("panics", []))))
+        panics = [it for it in names.get("panics", []) if not is_failure(it)]
         assert len(lines) == len(panics) + ("returned" in names), (name, lines)
         for line, panic in zip(lines, panics):
             file_, number, _ = names["locations"][panic["location"]]
             who = "" if panic["actor"] is None else f" of {names['actors'][str(panic['actor'])]}"
-            assert line.startswith("  panic ") and f"{who} at {file_}:{number}" in line and panic["text"].split("\n")[0][:100] in line, (name, line, panic)
+            assert line.startswith("  panic ") and f"{who} at {file_}:{number}" in line and shown(panic["text"].split("\n")[0])[:100] in line, (name, line, panic)
             count += 1
     assert count > 5, count
 
@@ -617,16 +655,16 @@ QUESTIONS = {
     "each_state_is_seen": ("Which states did the screen never look at, and what did it see in their place?", [
         "not looked at: ready!, busy!", 'its last look: "full!"', "call 4 state.borrow() screen {the state is looked at}"]),
     "the_sum_is_right": ("Was a number lost on the bus, or is it the test that is wrong?", [
-        "no value was lost in 4 calls", "panic after call 2 of the_sum_is_right at tests/failing.rs", "left: 2", "right: 3"]),
+        "no value was lost in 4 calls", "the_sum_is_right failed at tests/failing.rs", "left 2", "right 3"]),
     HANGS: ("Who waits, for what and since when, and why does it not end?", [
-        "worker in `state.wait_for` since call 2, {the worker waits}", "`state` has busy! and 1 sender at the end"]),
+        "worker in state.wait_for since call 2, {the worker waits}", "state has busy! and 1 sender at the end"]),
 }
 
 # The texts of the answer that are in sight.
-IN_SIGHT = """[...document.querySelectorAll('#answer :is(.line, .then, p)')].filter(line => {
-    const box = line.getBoundingClientRect(), outer = document.getElementById('answer-box').getBoundingClientRect();
-    return line.checkVisibility() && box.height > 0 && box.top >= 0 && box.bottom <= Math.min(innerHeight, outer.bottom + 1);
-}).map(line => line.textContent.replace(/\\s+/g, ' ').trim()).join(' ')"""
+IN_SIGHT = """[...document.querySelectorAll('#failed :is(h2, p, dl div), #answer :is(.line, .then, p)')].filter(line => {
+    const box = line.getBoundingClientRect(), outer = ['#failed, #answer', '#losses'].map(it => line.closest(it).getBoundingClientRect().bottom + 1);
+    return line.checkVisibility() && box.height > 0 && box.top >= 0 && box.bottom <= Math.min(innerHeight, ...outer);
+}).map(line => (line.innerText ?? line.textContent).replace(/\\s+/g, ' ').trim()).join(' ')"""
 
 
 def answers_in_sight(tab, folder, journals):

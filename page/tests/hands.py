@@ -72,17 +72,34 @@ def loss_keys(tab, folder, journals):
     tab.wait("document.getElementById('found').textContent === 'no loss begins or ends before it'")
 
 
+def found_around(ask, place, word, condition):
+    """What the console answers from a place on, or else of the whole run from the other end, and how the page says that it went on there."""
+    def answer(start, word):
+        return ask(f"goto {start}\n{word} {condition}\n").rstrip("\n").split("\n")[-1]
+    first = answer(place, word)
+    if first.startswith("hit"):
+        return first, ""
+    hits = []
+    while (found := answer(hits[-1] if hits else 0, "rforward")).startswith("hit"):
+        hits.append(int(found.split(" ")[1]))
+    if not hits:
+        return first, ""
+    return (f"hit {hits[-1]}", ", from the end again") if word == "rback" else (f"hit {hits[0]}", ", from the start again")
+
+
 def stops(tab, folder, journals):
-    """Stops are the console's own conditions, with its answers, faults among them."""
+    """Stops are the console's own conditions: the page goes where the console's answer says, and on from the other end where that is no hit. Of a fault, or
+    where there is none at all, it says what the console says."""
     opening.load(tab, opening.page_of(folder, "stops.journal", journals[63]))
     ask, place = opening.asker(journals[63]), 0
     for word, condition in STOPS:
         tab.run("document.getElementById('condition').select()")
         tab.type(condition)
         tab.key("Enter", shift=word == "rback")
-        answer = ask(f"goto {place}\n{word} {condition}\n").rstrip("\n").split("\n")[-1]
-        tab.wait(f"document.getElementById('found').textContent === {json.dumps(answer)}")
+        answer, around = found_around(ask, place, word, condition)
         place = int(answer.split(" ")[1]) if answer.startswith("hit") else place
+        wanted = f"hit at call {place}{around}" if answer.startswith("hit") else answer
+        tab.wait(f"document.getElementById('found').textContent === {json.dumps(wanted)}")
         check_place(tab, ask, place)
 
 
@@ -103,7 +120,7 @@ def hurried_searches(tab, folder, journals):
     second = ask("start\nrforward reply lagged\nrforward reply lagged\n").rstrip("\n").split("\n")[-1]
     hurried(tab, "search", "search")
     check_place(tab, ask, int(second.split(" ")[1]))
-    assert tab.text("found") == second
+    assert tab.text("found") == f"hit at call {second.split(' ')[1]}"
     tab.key("ArrowRight")
     assert tab.text("found") == ""
     hurried(tab, "search", "search", "Home")

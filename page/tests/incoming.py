@@ -96,7 +96,7 @@ def foreign_texts(tab, folder, journals):
     tab.drop(opening.put(folder, "bus.journal.gz", gzip.compress(journal)), opening.put(folder, "bus.names.gz", gzip.compress(names)))
     told(tab, "facts", "bus.journal.gz · 648 calls")
     tab.wait("document.getElementById('state').textContent.includes('event bus')")
-    for data, wanted in ((b"PK\3\4 and more", "it is packed by zip"), (gzip.compress(journal)[:900], "it is no whole gzip file")):
+    for data, wanted in ((b"PK\3\4 and more", "it is no whole zip file"), (b"BZh9", "it is packed by bzip2, and only gzip and zip are unpacked here"), (gzip.compress(journal)[:900], "it is no whole gzip file")):
         tab.drop(opening.put(folder, "packed", data))
         told(tab, "notice", f"packed can't be read: {wanted}")
         assert not tab.run("document.getElementById('walk').hidden"), "the run before is gone"
@@ -111,7 +111,7 @@ def several_runs(tab, folder, journals):
     tab.drop(*files, opening.put(folder, "third.ttd", SCRIPT), opening.put(folder, "lone.names", b"{}"), opening.put(folder, "p.zip", b"PK\3\4"))
     tab.wait("!document.getElementById('choice').hidden")
     assert tab.run("[...document.querySelectorAll('#choice button:not([hidden])')].map(it => it.textContent)") == ["bus.journal", "pool.journal", "third.ttd"]
-    told(tab, "notice", "p.zip can't be read: it is packed by zip, and only gzip is unpacked here. lone.names isn't beside a run of that name.")
+    told(tab, "notice", "p.zip can't be read: it is no whole zip file. lone.names isn't beside a run of that name.")
     for number, name, channel in ((1, "pool.journal", "jobs."), (0, "bus.journal", "event bus"), (2, "third.ttd", "channel 0")):
         tab.click(f"#choice [data-run='{number}']")
         told(tab, "facts", f"{name} · ")

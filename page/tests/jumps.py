@@ -205,7 +205,8 @@ SAME_POINTS = """(async (own, svg, above) => {
 
 
 def report_as_markdown(tab, folder, journals):
-    """What is copied as Markdown has the account, the call at the place, the loss there and the page's address, and its fences hold what is in them."""
+    """What is copied as Markdown has how the test failed in the panic's own words, the account, the call at the place, the loss there and where the page is,
+    which is no address on this machine, and its fences hold what is in them. Each step has its place in the sources."""
     page, place = failing.addresses()["no_price_is_missing"]
     opening.load(tab, page, place)
     tab.wait("location.hash.includes('view')")
@@ -215,12 +216,17 @@ def report_as_markdown(tab, folder, journals):
     copied = tab.run("copied")
     with open(failing.beside(page, ".names"), encoding="utf-8") as file:
         account = json.load(file)["account"]
-    told = [[f"failed: {account['failed']['text']}"], *(fact["text"] for fact in account["facts"][:account["rest"]["after"]]), [account["rest"]["text"]]]
-    head, found_, here, link = re.fullmatch(r"(### .*)\n\n(```+)text\n(.*?)\n\2\n\n```+text\n(.*?)\n```+\n\n(.*)\n", copied, re.S).group(1, 3, 4, 5)
+    told = [*(fact["text"] for fact in account["facts"][:account["rest"]["after"]]), [account["rest"]["text"]]]
+    fences = r"(### .*)\n\n(```+)text\n(.*?)\n\2\n\n```+text\n(.*?)\n```+\n\n```+text\n(.*?)\n```+\n\n(.*)\n"
+    head, failed, found_, here, link = re.fullmatch(fences, copied, re.S).group(1, 3, 4, 5, 6)
     assert head == "### no\\_price\\_is\\_missing.journal" and found_ == "\n".join(line for fact in told for line in fact), copied
+    where = failing.line_of("the auditor is told")
+    assert failed == f"no_price_is_missing failed at {where}:\nassertion `left == right` failed\n  left: Err(Lagged(3))\n right: Ok(101)", failed
+    steps = [line for line in [*found_.split("\n"), *here.split("\n")] if re.match("  call |call |cause|end", line)]
+    assert len(steps) == 5 and all(re.search(r"\w\.rs:\d+", line) for line in steps), steps
     lines = here.split("\n")
     assert lines[0].startswith("call 3 of 8: ticker on prices: send 0 2 → sent 1 at src/lib.rs:") and lines[1].startswith("auditor · receiver 1 lost 1 of 3"), lines
-    assert link == f"The page: <{tab.run('location.href')}>", link
+    assert "file:" not in copied and link == f"In the page `{os.path.basename(page)}`, at `{tab.run('location.hash')}`.", link
 
 
 def help_of_keys(tab, folder, journals):

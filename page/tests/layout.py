@@ -187,8 +187,12 @@ SMALL = """[...document.querySelectorAll('button:not(.copy), input, summary, tr[
     .map(it => [it.id || it.textContent.slice(0, 20), it.getBoundingClientRect().height]).filter(([, height]) => height < 43.5)"""
 
 
+# In how many rows the controls stand.
+CONTROLS = "new Set([...document.querySelectorAll('.bar button')].filter(it => it.checkVisibility()).map(it => Math.round(it.getBoundingClientRect().top))).size"
+
+
 def room_for_fingers(tab, folder, journals):
-    """Where fingers point, each control is at least 44 points high, and nothing lies over anything."""
+    """Where fingers point, each control is at least 44 points high, in two rows on a phone, and nothing lies over anything."""
     page, place = failing.addresses()["the_orders_are_whole"]
     tab.call("Emulation.setTouchEmulationEnabled", enabled=True)
     tab.call("Emulation.setDeviceMetricsOverride", width=390, height=844, deviceScaleFactor=1, mobile=True)
@@ -199,6 +203,7 @@ def room_for_fingers(tab, folder, journals):
         tab.run("new Promise(done => requestAnimationFrame(() => requestAnimationFrame(done)))")
         assert tab.run(SMALL) == [], (part, tab.run(SMALL))
         assert tab.run(MEASURE) == [], (part, tab.run(MEASURE)[:6])
+        assert part != "picture" or tab.run(CONTROLS) == 2, tab.run(CONTROLS)
     tab.call("Emulation.setTouchEmulationEnabled", enabled=False)
     tab.resize(1440, 920)
 

@@ -38,7 +38,7 @@ test("a time is known between two others", () => {
 test("it is said when and why a window was written, and which calls it has", () => {
   const escaped = text => text.replace("\n", "\\n");
   const text = (lead, length, at = WINDOW.at) => windowText({ ...WINDOW, lead, at }, length, escaped);
-  assert.strictEqual(text(117, 20_117), "dump of 2026-11-29 03:12:45.120 UTC: asked\\nfor; calls 118 to 20117; 1 to 117 lead to the window");
+  assert.strictEqual(text(117, 20_117), "dump of 2026-11-29 03:12:45.120 UTC: asked\\nfor; calls 118 to 20,117; 1 to 117 lead to the window");
   assert.deepStrictEqual([[0, 5], [1, 2], [3, 3]].map(([lead, length]) => text(lead, length, null).slice(18)),
     ["calls 1 to 5", "call 2; 1 leads to the window", "no call; 1 to 3 lead to the window"]);
 });

@@ -59,8 +59,8 @@ def check_silent(tab, ask, place):
     opening.settle(tab, place)
     assert tab.text("place") == f"call {place:,} of {real_runs.LONG_MADE:,}"
     assert ask(f"goto {place}\nstep\n").split("\n")[1].split(" ", 4)[4].replace(" = ", " → ").split(" → ")[1] in tab.text("sentence")
-    label = {SILENT.start: "1 of 45 values so far", SILENT.to: "45 values"}[place]
-    assert f"late joiner · receiver 2 lost {label} dropped untold" in tab.text("state"), tab.text("state")[:300]
+    label = {SILENT.start: "1 of 45 values so far not told yet", SILENT.to: "45 values dropped untold"}[place]
+    assert f"late joiner · receiver 2 lost {label}" in tab.text("state"), tab.text("state")[:300]
 
 
 def stops_of_losses(tab, folder, journals):
@@ -486,7 +486,7 @@ def held_are_last(tab, folder, journals):
     opening.load(tab, opening.page_of(folder, "held.journal", native.record(script.encode())), 0)
     line = tab.run("document.querySelector('#loss-line span').textContent")
     assert line == "2 receivers lost 4 values", line
-    heads = tab.run("[...document.querySelectorAll('#answer .fact b')].map(it => it.textContent)")
+    heads = tab.run("[...document.querySelectorAll('#answer .fact h3')].map(it => it.textContent)")
     assert heads == ["receiver 1 lost 1 of 3 values of channel 1 (capacity 1)", "receiver 1 lost 3 of 4 values of channel 0 (capacity 1)"], heads
     tab.key("t")
     assert list(tab.run(TABLE)) == ["1 1", "0 1"], tab.run(TABLE)

@@ -54,11 +54,11 @@ def standing(receiver, channel):
     """The page's text about a receiver."""
     if "seen" in receiver:
         mark, missed = receiver["mark"], channel["version"] - receiver["mark"] - 1
-        return f"has {mark}, seen" if receiver["seen"] else f"has {mark} of {channel['version']}" + (f", missed {missed}" if missed else "")
+        return f"has {mark:,}, seen" if receiver["seen"] else f"has {mark:,} of {channel['version']:,}" + (f", missed {missed:,}" if missed else "")
     if receiver["unread"] == 0:
         return "up to date"
-    lost = f", {receiver['lag']} overwritten" if receiver["lag"] else ""
-    return f"{receiver['unread'] - receiver['lag']} to read{lost}"
+    lost = f", {receiver['lag']:,} overwritten" if receiver["lag"] else ""
+    return f"{receiver['unread'] - receiver['lag']:,} to read{lost}"
 
 
 def boxes_of(channel):
@@ -67,7 +67,7 @@ def boxes_of(channel):
         return [str(channel["value"])]
     values = channel["window"]
     newest = values[-NEWEST:]
-    boxes = [f"+{len(values) - len(newest)}"] if len(values) > len(newest) else []
+    boxes = [f"+{len(values) - len(newest):,}"] if len(values) > len(newest) else []
     for left, value in zip(range(len(newest), 0, -1), newest):
         boxes.append(str(value) + "".join(f"↑ {it['handle']}" for it in channel["receivers"] if it["unread"] - it["lag"] == left))
     return boxes

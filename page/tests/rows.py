@@ -240,7 +240,7 @@ def folds_and_filter(tab, folder, journals):
     tab.wait(f"location.hash.includes('&fold={int(first[-2:])}.actors')")
     address = tab.run("location.hash")
     tab.key("z")
-    tab.wait("document.getElementById('fold-all').textContent === 'unfold all'")
+    tab.wait("document.getElementById('fold-all').getAttribute('aria-pressed') === 'true'")
     assert not any(" · receiver " in text for text in texts_of(tab))
     tab.load(f"{path}{address}")
     opening.settle(tab, 100)
@@ -303,14 +303,14 @@ def in_order(tab, channels):
 
 
 def narrow_tabs(tab, folder, journals):
-    """On a narrow screen answer, picture and state are shown one at a time, the answer first."""
+    """On a narrow screen answer, picture and state are shown one at a time, the answer first, below which is the picture without its controls."""
     path, _ = page_of(folder, "bus", real_runs.bus())
     tab.resize(390, 844)
     opening.load(tab, path, 300)
-    shown = "['answer-box', 'left', 'state'].map(name => document.getElementById(name).checkVisibility())"
-    assert tab.run(shown) == [True, False, False]
+    shown = "['answer-box', 'picture', 'slider', 'state'].map(name => document.getElementById(name).checkVisibility())"
+    assert tab.run(shown) == [True, True, False, False]
     tab.click("#tabs [data-tab=state]")
-    assert tab.run(shown) == [False, False, True]
+    assert tab.run(shown) == [False, False, False, True]
     tab.click("#tabs [data-tab=picture]")
-    assert tab.run(shown) == [False, True, False]
+    assert tab.run(shown) == [False, True, True, False]
     tab.resize(1440, 920)

@@ -14,7 +14,10 @@ import beginning
 import bidi
 import chosen_files
 import dark
+import dropped
 import failing
+import faults
+import first_look
 import hands
 import incoming
 import jumps
@@ -60,9 +63,9 @@ TESTS = [
     owners.whose_rows, owners.long_owners, owners.told_apart, owners.versions, owners.unseen_changes,
     jumps.picture_as_png, jumps.picture_as_svg, jumps.report_as_markdown, jumps.help_of_keys, jumps.zoom_at_pointer, jumps.touch,
     hands.waiting_script, hands.refusals, hands.example, hands.files_that_are_not_there, hands.addresses, shown.large_runs,
-    shown.quick_walking, shown.many_handles, weak.weak_senders, weak.weak_rows, texts.large_numbers, texts.long_texts, speed.figures,
-    *losses.TESTS, *lives.TESTS, *sources.TESTS, *failing.TESTS, *accounts.TESTS, *layout.TESTS, *search.TESTS, *story.TESTS, *tasks.TESTS, *against.TESTS, *windows.TESTS,
-    *beginning.TESTS,
+    shown.quick_walking, shown.many_handles, weak.weak_senders, weak.weak_rows, texts.large_numbers, texts.long_texts, speed.names_take_little, speed.figures,
+    *dropped.TESTS, *losses.TESTS, *lives.TESTS, *sources.TESTS, *failing.TESTS, *accounts.TESTS, *layout.TESTS, *search.TESTS, *story.TESTS, *tasks.TESTS,
+    *against.TESTS, *windows.TESTS, *beginning.TESTS, *first_look.TESTS, *faults.TESTS,
     bare(answers.example_sessions), random_commands, spoiled_texts,
 ]
 
@@ -75,7 +78,7 @@ SLOW = {speed.figures, shown.large_runs, shown.quick_walking, shown.many_handles
 LONGER = {accounts.cause_in_whole, layout.nothing_over_anything, against.same_as_a_plain_model}
 
 # Those that open what the tests of `failing` have left, which cargo runs once for all of them.
-OF_FAILING = {*accounts.TESTS, *against.TESTS, *failing.TESTS, *layout.TESTS, *search.TESTS, *story.TESTS, jumps.report_as_markdown}
+OF_FAILING = {*accounts.TESTS, *against.TESTS, *failing.TESTS, *layout.TESTS, *search.TESTS, *story.TESTS, *first_look.TESTS, *faults.TESTS, jumps.report_as_markdown}
 
 
 def passes(name, run):

@@ -6,6 +6,7 @@ import failing
 import found
 import opening
 import real_runs
+from hands import found_around
 from losses import lines_of
 from rows import page_of
 
@@ -44,7 +45,7 @@ def seek(tab, text, back=False):
 
 def texts_of_calls(tab, folder, journals):
     """Enter and Shift-Enter walk through the calls that have a text, in the texts of values, in names, calls and replies, whatever the case of its
-    letters. They are counted, and marked on the strip."""
+    letters, and on from the other end. They are counted, and marked on the strip."""
     journal, names = real_runs.bus()
     named = json.loads(names)
     named["handles"] = {"0": {"1": "first of all"}}
@@ -62,11 +63,12 @@ def texts_of_calls(tab, folder, journals):
         for back in (False, False, True):
             seek(tab, text, back)
             after = [it for it in places if (it < here if back else it > here)]
-            if not after:
-                tab.wait(f"{HIT} === {json.dumps(f'none of the {len(places)} hit' + ('s' if len(places) > 1 else '') + (' is before it' if back else ' is after it') if places else f'no call has {text}')}")
+            if not places:
+                tab.wait(f"{HIT} === {json.dumps(f'no call has {text}')}")
                 continue
-            here = after[-1] if back else after[0]
-            tab.wait(f"{HIT} === 'hit {places.index(here) + 1} of {len(places)}'")
+            around = "" if after else ", from the end again" if back else ", from the start again"
+            here = (after or places)[-1 if back else 0]
+            tab.wait(f"{HIT} === 'hit {places.index(here) + 1} of {len(places)}{around}'")
             opening.settle(tab, here)
         marks = tab.run(MARKS)
         assert (marks > 0) == bool(places) and marks <= 2 * len(places), (text, marks, len(places))
@@ -92,12 +94,11 @@ def conditions_by_names(tab, folder, journals):
     place = 0
     for named, condition in (("lagging event bus nightly-export", "lagging 0 7"), ("actor webhook", "actor 4"), ("unseen feature flags metrics", "unseen 1 3"),
                              ("queue event bus 4", "queue 0 4"), ("closed feature flags", "closed 1"), ("channel event bus", "channel 0")):
-        answer = ask(f"goto {place}\nrforward {condition}\n").rstrip("\n").split("\n")[-1]
+        answer, around = found_around(ask, place, "rforward", condition)
         seek(tab, named)
-        tab.wait(f"{HIT} === {json.dumps(answer)}")
-        if answer.startswith("hit"):
-            place = int(answer.split(" ")[1])
-            opening.settle(tab, place)
+        place = int(answer.split(" ")[1])
+        tab.wait(f"{HIT} === {json.dumps(f'hit at call {place}{around}')}")
+        opening.settle(tab, place)
 
 
 def hits_of(states, entries, condition):

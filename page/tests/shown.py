@@ -119,7 +119,9 @@ def spoken(tab, folder, journals):
     nodes = tab.call("Accessibility.getFullAXTree")["nodes"]
     told = [(it["role"]["value"], it.get("name", {}).get("value", "")) for it in nodes if not it["ignored"]]
     headings = [name for role, name in told if role == "heading"]
-    wanted = {"Yovanelum", "actor 2 · receiver 2 lost 2 values told", "channel 0 broadcast, capacity 4 open", "channel 1 watch open", "Calls around it"}
+    facts = tab.run("[...document.querySelectorAll('#answer .fact h3')].map(it => it.textContent)")
+    assert len(facts) > 2
+    wanted = {"Yovanelum", *facts, "actor 2 · receiver 2 lost 2 values not told yet", "channel 0 broadcast, capacity 4 open", "channel 1 watch open", "Calls around it"}
     assert set(headings) == wanted, headings
     texts = [name for role, name in told if role == "StaticText"]
     assert "2 overwritten" in texts and "has 0 of 1" in texts
@@ -153,7 +155,7 @@ def many_handles(tab, folder, journals):
     """A run with thousands of receivers alive at once opens, and the page shows how many it leaves out."""
     script = b"broadcast 4\n" + b"0 0 subscribe 0\n" * 3000 + b"0 0 send 0 1\n" * 9
     opening.load(tab, opening.page_of(folder, "many.ttd", script), 3005)
-    assert "receiversand 2937 more" in tab.text("state"), tab.text("state")[:2000]
+    assert "receiversand 2,937 more" in tab.text("state"), tab.text("state")[:2000]
     tab.key("0")
     tab.wait("document.getElementById('picture').getAttribute('aria-label').includes('to 3009')")
 

@@ -1,10 +1,12 @@
 """What every browser has to do: it opens, walks and drops runs. Each has a driver of its own. All other tests run in Chromium's engine."""
+import base64
 import json
 import re
 import sys
 import tempfile
 import traceback
 
+import dropped
 import native
 import opening
 import real_runs
@@ -13,6 +15,11 @@ import runs
 # Dispatches a drop of files, whose contents are given as texts.
 DROP = """const data = new DataTransfer();
 for (const [name, text] of arguments[0]) data.items.add(new File([text], name));
+document.dispatchEvent(new DragEvent('drop', { dataTransfer: data, bubbles: true, cancelable: true }));"""
+
+# The same of one file, whose bytes are given in base64.
+DROP_BYTES = """const data = new DataTransfer();
+data.items.add(new File([Uint8Array.from(atob(arguments[1]), it => it.charCodeAt(0))], arguments[0]));
 document.dispatchEvent(new DragEvent('drop', { dataTransfer: data, bubbles: true, cancelable: true }));"""
 
 
@@ -81,9 +88,26 @@ def drops(page, folder):
     assert "recv 1 → value 9" in page.text("sentence"), page.text("sentence")
 
 
+def opens_packed(page, folder):
+    """A page with a packed run opens, and so does a zip with that page inside, and one that unpacks to too much is refused."""
+    journal, names = real_runs.bus()
+    packed = dropped.page_with(folder, "packed.html", "bus.journal", journal, names)
+    page.load(packed)
+    opening.settle(page)
+    assert page.text("facts").startswith("bus.journal · 648 calls"), page.text("facts")
+    zips = [dropped.zip_of(folder, "ci.zip", [("target/bus.html", dropped.read(packed))]),
+            dropped.zip_of(folder, "bomb.zip", [("big.journal", bytes(dropped.MOST + 1))])]
+    page.load(native.PAGE)
+    page.wait("window.ttd")
+    for path, shown in zip(zips, ("facts", "notice")):
+        page.run(DROP_BYTES, path.rpartition("/")[2], base64.b64encode(dropped.read(path)).decode())
+        wanted = {"facts": "target/bus.html · 648 calls", "notice": "big.journal can't be read: it unpacks to more than 256 MB."}[shown]
+        page.wait(f"document.getElementById({json.dumps(shown)}).textContent.startsWith({json.dumps(wanted)})")
+
+
 def count(name, browser):
     """Runs the tests, and ends the process. The last line counts them."""
-    passed, tests = 0, [opens_and_walks, reads_the_answer, opens_large, drops]
+    passed, tests = 0, [opens_and_walks, reads_the_answer, opens_large, drops, opens_packed]
     try:
         for test in tests:
             try:

@@ -29,8 +29,8 @@ def source_lines(tab, folder, journals):
         opening.settle(tab, place)
         assert (f" at {source}" in tab.text("sentence")) == (source is not None), tab.text("sentence")
         assert (f"called at {source}" in tab.text("whole-call")) == (source is not None), tab.text("whole-call")
-        row = tab.run(f"document.querySelector('#calls [data-place=\"{place}\"] small')?.textContent ?? null")
-        assert row == source, (place, row)
+        row = tab.run(f"(row => row && [row.textContent, row.title])(document.querySelector('#calls [data-place=\"{place}\"] small'))")
+        assert row == (source and [source.removeprefix("src/"), source]), (place, row)
     assert "receiver 2, created at src/worker.rs:30" in tab.text("whole-call"), tab.text("whole-call")
     assert tab.text("sentence").startswith("a1 actor 1, src/worker.rs:30 on channel 0: recv 2"), tab.text("sentence")
 
@@ -55,6 +55,15 @@ def waiting_calls(tab, folder, journals):
         held = {**NAMES, "actors": {"0": "main"}, "waiting": [{**NAMES["waiting"][0], "held_by": holder}]}
         opening.load(tab, named_page(folder, f"held{number}", held))
         assert tab.text("facts").endswith(f", at src/bus.rs:15{said}"), tab.text("facts")
+    # One that was woken is not told to wait.
+    woken = {**NAMES, "waiting": [{**NAMES["waiting"][0], "woken": True}]}
+    opening.load(tab, named_page(folder, "woken", woken))
+    said = "1 call began to wait: actor 1, src/worker.rs:30 waited in recv of actor 1, src/worker.rs:30 · receiver 2 on channel 0 since call 3, at src/bus.rs:15, and was woken"
+    assert tab.text("facts").endswith(said), tab.text("facts")
+    assert "recv was woken" in drawn_texts(tab) and "recv waits" not in drawn_texts(tab)
+    assert "waited in recv since call 3, and was woken" in tab.text("table-rows"), tab.text("table-rows")
+    opening.load(tab, named_page(folder, "not-woken", {**NAMES, "waiting": [{**NAMES["waiting"][0], "woken": False}]}))
+    assert tab.text("facts").endswith(told), tab.text("facts")
     quiet = {key: value for key, value in NAMES.items() if key != "waiting"}
     opening.load(tab, named_page(folder, "quiet", quiet))
     assert "waits" not in tab.text("facts") + tab.text("table-rows") and "recv waits" not in drawn_texts(tab)

@@ -1,4 +1,5 @@
 """How long opening and stepping take. The figures are printed, and on an idle machine they have to be within what is promised."""
+import json
 import os
 import time
 
@@ -6,6 +7,7 @@ import native
 import opening
 import real_runs
 import runs
+import search
 from browser import Browser, Tab
 
 MANY = 30
@@ -23,12 +25,12 @@ MARGIN, BUSY = 2, 50
 IDLE = 0.8
 
 # By the channels, actors and calls of a pool, the seconds of processors that the tab may take until its first picture, from there until what is
-# found in it is shown, for a jump to a place whose states aren't loaded, and for the answer to a stop. A machine that is slow or busy takes up to
-# three times as long.
+# found in it is shown, for a jump to a place whose states aren't loaded, for the answer to a stop, and for a search for a text that many calls have. A
+# machine that is slow or busy takes up to three times as long.
 JUMP_AND_STOP = {"cold jump": 0.1, "stop": 0.1}
 POOLS = {
     (64, 64, 100_000): {"first picture": 0.5, "findings": 1, **JUMP_AND_STOP},
-    (16, 16, 1_000_000): {"first picture": 1, "findings": 3, **JUMP_AND_STOP},
+    (16, 16, 1_000_000): {"first picture": 1, "findings": 3, **JUMP_AND_STOP, "search": 0.5},
 }
 PROCESSOR_MARGIN = 3
 
@@ -121,6 +123,7 @@ def pool(tab, folder, size, promised):
         "strip": lambda: tab.run("ttd.ask('')"),
         "cold jump": lambda: (tab.run(f"location.hash = '#call={jump}'"), opening.settle(tab, jump)),
         "stop": lambda: tab.run("ttd.ask('start\\nrforward reply lagged\\n')"),
+        "search": lambda: (search.seek(tab, "try-recv"), tab.wait(f"{search.HIT}.startsWith('hit ')")),
     }
     tab.load(native.PAGE)
     took, since = {}, processor_seconds(tab)
@@ -133,6 +136,37 @@ def pool(tab, folder, size, promised):
           + f"; {megabytes} MB")
     assert all(took[name] < PROCESSOR_MARGIN * most for name, most in promised.items()), "takes more of processors than it may"
     assert megabytes <= MOST_MEGABYTES, "takes more of memory than it may"
+
+
+# How many bytes of a script's memory a call may take for its texts and its place in the sources, on top of a run without them.
+NAMED_CALLS, MOST_OF_A_CALL = 60_000, 6
+
+
+def memory_of_scripts(tab):
+    tab.call("HeapProfiler.collectGarbage")
+    return next(it["value"] for it in tab.call("Performance.getMetrics")["metrics"] if it["name"] == "JSHeapUsedSize")
+
+
+def names_take_little(tab, folder, journals):
+    """The texts of a run's values and the places of its calls stay in the bytes of their file, however many there are, and are shown and found."""
+    journal, text = real_runs.pool_of(16, 16, NAMED_CALLS)
+    names, calls = json.loads(text), [line.split() for line in journal.decode().splitlines() if line[0].isdigit()]
+    names["locations"] = [["src/pool.rs", line, 9] for line in range(300, 400)]
+    names["calls"] = {str(channel): [place % 100 for place in range(sum(call[2] == str(channel) for call in calls))] for channel in range(16)}
+    opening.load(tab, opening.page_of(folder, "plain.journal", journal))
+    tab.call("Performance.enable")
+    plain = memory_of_scripts(tab)
+    opening.put(folder, "named.names", json.dumps(names).encode())
+    opening.load(tab, opening.page_of(folder, "named.journal", journal))
+    more = memory_of_scripts(tab) - plain
+    assert more < MOST_OF_A_CALL * NAMED_CALLS, f"{more:,} bytes more with names than without"
+    place = next(place for place, call in enumerate(calls, 1) if call[3] == "send" and place > NAMED_CALLS // 2)
+    channel, value = calls[place - 1][2], calls[place - 1][5]
+    tab.run(f"location.hash = '#call={place}'")
+    opening.settle(tab, place)
+    shown = names["values"][channel][value]
+    line = 300 + (sum(call[2] == channel for call in calls[:place]) - 1) % 100
+    assert shown in tab.text("state") and f"src/pool.rs:{line} " in tab.text("sentence"), (tab.text("state"), shown, tab.text("sentence"), line)
 
 
 def mean_step(tab):

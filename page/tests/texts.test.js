@@ -67,6 +67,14 @@ test("a journal is told from a script", () => {
   assert.deepStrictEqual(["ttd-journal 2\n", "broadcast 1\n", ""].map(text => isJournal(bytes(text))), [true, false, false]);
 });
 
+test("a channel without a name is called by its place, as in the account", () => {
+  const locations = [["src/bus.rs", 12, 5], ["src/bus.rs", 30, 5], ["src/bus.rs", 12, 40]];
+  const made = { 0: { 0: 0, 1: 1 }, 1: { 0: 1 }, 2: { 0: 0 }, 3: { 0: 1 }, 4: { 1: 0 } };
+  const names = readNames(JSON.stringify({ version: 3, channels: { 2: "orders" }, locations, made }));
+  assert.deepStrictEqual([0, 1, 2, 3, 4, 5].map(number => names.channel(number)),
+    ["channel of src/bus.rs:12", "channel 1 of src/bus.rs:30", "orders", "channel 3 of src/bus.rs:30", "channel 4", "channel 5"]);
+});
+
 test("names are read, and refused with a reason", () => {
   const names = readNames('{"version": 3, "actors": {"0": "a\\u202eb"}, "handles": {"1": {"2": "audit"}}, "failed": true, "later": {}}');
   assert.deepStrictEqual([names.actor(0), names.actor(1), names.handle(1, 2), names.handle(0, 2), names.ending.hasFailed],

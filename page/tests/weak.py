@@ -54,13 +54,13 @@ def weak_senders(tab, folder, journals):
     assert [line.split(b" = ")[1].decode() for line in journal.split(b"\n") if b" = " in line] == REPLIES, journal
     opening.load(tab, opening.page_of(folder, "weak.journal", journal))
     walk(tab, opening.asker(journal), len(REPLIES))
-    stop(tab, "reply no-sender", f"hit 10 of {len(REPLIES)}")
+    stop(tab, "reply no-sender", "hit at call 10")
     check_place(tab, opening.asker(journal), 10)
     with open(KEPT, "rb") as file:
         kept = file.read()
     opening.load(tab, opening.page_of(folder, "kept.journal", kept))
     walk(tab, opening.asker(kept), 7)
-    stop(tab, "reply no-sender", "hit 6 of 7")
+    stop(tab, "reply no-sender", "hit at call 6")
 
 
 def drawn(tab, folder, name, script):

@@ -4,6 +4,9 @@
 //!   prints what a call takes in each tenth, and the memory.
 //! - `dump CHANNELS LAST`: dumps of channels with `LAST` calls each, beside a service. It prints
 //!   how long each takes, and how long the service's calls take meanwhile.
+//! - `held TIMES`: what a call takes where nothing is held, over a backlog, and beside many
+//!   receivers, in nanoseconds of processor time, the least of `TIMES` runs: without a recorder,
+//!   recorded, and with flight recorders.
 
 use std::fs::{self, read_to_string};
 use std::hint::black_box;
@@ -169,6 +172,94 @@ fn dump(channels: usize, last: usize, folder: &Path) {
     println!("memory at most {:.0} MB", memory("VmHWM:"));
 }
 
+/// What a channel holds while its calls are measured.
+#[derive(Clone, Copy)]
+enum Held {
+    Nothing,
+    Backlog(u64),
+    Receivers(usize),
+}
+
+impl Held {
+    /// Makes a channel that holds this, the receiver that receives what is sent next, and others.
+    fn channel(self) -> (Channel, Vec<broadcast::Receiver<u64>>) {
+        let (capacity, backlog, receivers) = match self {
+            Held::Nothing => (1_024, 0, 0),
+            Held::Backlog(backlog) => (65_536, backlog, 0),
+            Held::Receivers(receivers) => (1_024, 0, receivers),
+        };
+        let channel = broadcast::channel(capacity);
+        let others = (0..receivers).map(|_| channel.0.subscribe()).collect();
+        for value in 0..backlog {
+            channel.0.send(value).unwrap();
+        }
+        (channel, others)
+    }
+
+    /// Returns the nanoseconds of a call: of a send with the receive that follows it, half.
+    fn call(self) -> f64 {
+        const PAIRS: u64 = 200_000;
+        let ((tx, mut rx), others) = self.channel();
+        let before = spent();
+        for value in 0..PAIRS {
+            tx.send(value).unwrap();
+            black_box(rx.try_recv().unwrap());
+        }
+        let took = spent() - before;
+        drop(others);
+        took as f64 / (2 * PAIRS) as f64
+    }
+}
+
+/// Who keeps the calls that are measured.
+#[derive(Clone, Copy)]
+enum Keeper {
+    Nobody,
+    Recorder,
+    Flight(usize),
+}
+
+impl Keeper {
+    fn call(self, held: Held) -> f64 {
+        let recorder = match self {
+            Keeper::Nobody => return held.call(),
+            Keeper::Recorder => Recorder::new(),
+            Keeper::Flight(last) => Recorder::flight(last),
+        };
+        let _entered = recorder.enter();
+        held.call()
+    }
+}
+
+fn held(times: u64) {
+    let cases = [
+        ("nothing", Held::Nothing),
+        ("60000 unread", Held::Backlog(60_000)),
+        ("5000 receivers", Held::Receivers(5_000)),
+    ];
+    let keepers = [
+        ("none", Keeper::Nobody),
+        ("recorded", Keeper::Recorder),
+        ("flight 100", Keeper::Flight(100)),
+        ("flight 1000", Keeper::Flight(1_000)),
+        ("flight 10000", Keeper::Flight(10_000)),
+    ];
+    for (case, held) in cases {
+        let mut least = [f64::INFINITY; 5];
+        for _ in 0..times {
+            for (least, (_, keeper)) in least.iter_mut().zip(keepers) {
+                *least = least.min(keeper.call(held));
+            }
+        }
+        for (ns, (keeper, _)) in least.into_iter().zip(keepers) {
+            println!(
+                "{case:>14} {keeper:>12} {ns:>8.1} ns, {:.2} of recorded",
+                ns / least[1]
+            );
+        }
+    }
+}
+
 fn main() {
     let words: Vec<String> = env::args()
         .skip(1)
@@ -183,6 +274,7 @@ fn main() {
             number(1, 1) as usize,
             number(2, 10_000) as usize,
         ),
+        "held" => held(number(0, 5)),
         _ => {
             let folder = env::temp_dir().join(format!("yovanelum-bench-{}", process::id()));
             dump(number(0, 64) as usize, number(1, 10_000) as usize, &folder);

@@ -2,9 +2,11 @@
 //! is a watch. Connections come and go, each with a name of its own, and some read slowly. The
 //! service counts what is lost by itself, and compares that with what the recorder says.
 //!
-//! `cargo run --release --example night -- CONNECTIONS FOLDER`
+//! `cargo run --release --example night -- CONNECTIONS FOLDER [MINUTES]`
+//!
+//! It serves this number of connections, and goes on with more until the minutes are over.
 
-use std::collections::BTreeSet;
+use std::collections::{BTreeMap, HashSet, VecDeque};
 use std::path::{Path, PathBuf};
 use std::sync::atomic::{AtomicU64, Ordering};
 use std::sync::{Arc, Mutex};
@@ -26,6 +28,9 @@ const MESSAGES: u64 = 8;
 /// One in this number of connections reads slowly.
 const SLOW: u64 = 100;
 
+/// How many losses are remembered, of which the dumps that are kept are some.
+const REMEMBERED: usize = 65_536;
+
 /// Why the last dump is written.
 const OVER: &str = "the night is over";
 
@@ -37,7 +42,43 @@ type Loss = (String, u64, String);
 pub struct Counted {
     sent: AtomicU64,
     received: AtomicU64,
-    losses: Mutex<BTreeSet<Loss>>,
+    losses: Mutex<Losses>,
+}
+
+/// The losses of a night, as the recorder tells them and as the service counts them. What both have
+/// said is forgotten but for the last ones, so a long night takes no more memory than a short one.
+#[derive(Default)]
+struct Losses {
+    count: u64,
+    // How many more times the recorder has told each than the service has counted it.
+    told: BTreeMap<Loss, i64>,
+    last: VecDeque<Loss>,
+}
+
+impl Losses {
+    /// Notes that the recorder tells a loss.
+    fn tell(&mut self, loss: Loss) {
+        self.add(loss, 1);
+    }
+
+    /// Notes that the service counts a loss.
+    fn count(&mut self, loss: Loss) {
+        self.count += 1;
+        if self.last.len() == REMEMBERED {
+            self.last.pop_front();
+        }
+        self.last.push_back(loss.clone());
+        self.add(loss, -1);
+    }
+
+    fn add(&mut self, loss: Loss, more: i64) {
+        let told = self.told.get(&loss).copied().unwrap_or(0) + more;
+        if told == 0 {
+            self.told.remove(&loss);
+        } else {
+            self.told.insert(loss, told);
+        }
+    }
 }
 
 /// What a night was like.
@@ -50,7 +91,7 @@ pub struct Night {
     /// How many of them were received, by all together.
     pub received: u64,
     /// How many times a connection lagged.
-    pub losses: usize,
+    pub lags: u64,
     /// The dumps of the recorder.
     pub dumps: Dumps,
     /// The dump at its end.
@@ -63,18 +104,18 @@ pub struct Night {
 struct Service {
     rooms: Vec<broadcast::Sender<u64>>,
     setting: watch::Sender<u64>,
-    counted: Counted,
+    counted: Arc<Counted>,
 }
 
 impl Service {
-    fn new(recorder: &Recorder) -> Service {
+    fn new(recorder: &Recorder, counted: Arc<Counted>) -> Service {
         let rooms = (0..ROOMS)
             .map(|_| broadcast::Sender::new(RETAINED))
             .collect();
         let service = Service {
             rooms,
             setting: watch::Sender::new(0),
-            counted: Counted::default(),
+            counted,
         };
         for (number, room) in service.rooms.iter().enumerate() {
             recorder.name(room, &format!("room {number}"));
@@ -112,33 +153,38 @@ impl Service {
 
     fn note(&self, number: u64, lost: u64, room: usize) {
         let loss = (format!("inbox {number}"), lost, format!("room {room}"));
-        self.counted.losses.lock().unwrap().insert(loss);
+        self.counted.losses.lock().unwrap().count(loss);
     }
 }
 
-/// Serves all connections, on a few threads.
-fn serve_all(service: &Service, recorder: &Recorder, connections: u64) {
+/// Serves connections on a few threads, as long as there is another one by its number. Returns how
+/// many there were.
+fn serve_all(service: &Service, recorder: &Recorder, is_next: impl Fn(u64) -> bool + Sync) -> u64 {
     let next = &AtomicU64::new(0);
+    let served = &AtomicU64::new(0);
+    let is_next = &is_next;
     thread::scope(|threads| {
         for _ in 0..THREADS {
             threads.spawn(move || {
                 let _entered = recorder.enter();
                 let numbers = std::iter::repeat_with(|| next.fetch_add(1, Ordering::Relaxed));
-                for number in numbers.take_while(|number| *number < connections) {
+                for number in numbers.take_while(|number| is_next(*number)) {
                     let serves = service.serve(recorder, number);
                     block_on(named(&format!("conn {number}"), serves));
                     if number % 1_000 == 0 {
                         service.setting.send_replace(number);
                     }
+                    served.fetch_add(1, Ordering::Relaxed);
                 }
             });
         }
     });
+    served.load(Ordering::Relaxed)
 }
 
 /// Panics unless each dump of this folder that a lag has called for is of one of these losses.
-fn assert_are_losses(folder: &Path, losses: &BTreeSet<Loss>) -> io::Result<()> {
-    let reasons: BTreeSet<_> = losses.iter().map(reason).collect();
+fn assert_are_losses(folder: &Path, losses: &Losses) -> io::Result<()> {
+    let reasons: HashSet<_> = losses.last.iter().map(reason).collect();
     for file in fs::read_dir(folder)? {
         let path = file?.path();
         if path.extension().is_none_or(|it| it != "names") {
@@ -158,39 +204,55 @@ fn reason((who, lost, room): &Loss) -> String {
     format!("`{who}` lost {lost} {values} of `{room}`")
 }
 
-/// Serves this number of connections, and writes dumps into this folder when one lags. Panics where
-/// the recorder says something else than the service has counted.
-pub fn night(connections: u64, folder: &Path) -> io::Result<Night> {
+/// Returns the dumps of the recorder, once there is an account of each that a lag has called for,
+/// and of the last one. Panics if there are more.
+fn all_dumps(recorder: &Recorder, lags: u64) -> Dumps {
+    loop {
+        let dumps = recorder.dumps();
+        let count = dumps.written() + dumps.failed() + dumps.left_out();
+        if count > lags {
+            assert_eq!(count, lags + 1);
+            return dumps;
+        }
+        thread::yield_now();
+    }
+}
+
+/// Serves at least this number of connections, and for at least this time, and writes dumps into
+/// this folder when one lags. Panics where the recorder says something else than the service has
+/// counted.
+pub fn night(least: u64, lasts: Duration, folder: &Path) -> io::Result<Night> {
     let recorder = Recorder::flight(1_000);
     let dumps = recorder.dump_to(folder).when_lag(1).keep(16);
     dumps.at_most_every(Duration::from_millis(100));
-    let told = Arc::new(Mutex::new(BTreeSet::new()));
-    let noted = told.clone();
+    let counted = Arc::new(Counted::default());
+    let noted = counted.clone();
     recorder.on_lag(move |lag| {
         let loss = (
             lag.receiver().to_string(),
             lag.lost(),
             lag.channel().to_string(),
         );
-        noted.lock().unwrap().insert(loss);
+        noted.losses.lock().unwrap().tell(loss);
     });
     let entered = recorder.enter();
-    let service = Service::new(&recorder);
+    let service = Service::new(&recorder, counted);
     drop(entered);
     let began = Instant::now();
-    serve_all(&service, &recorder, connections);
+    let is_next = |number| number < least || began.elapsed() < lasts;
+    let connections = serve_all(&service, &recorder, is_next);
     let took = began.elapsed();
     let last = recorder.dump(OVER).wait()?;
     let losses = service.counted.losses.lock().unwrap();
-    assert_eq!(*told.lock().unwrap(), *losses);
+    assert_eq!(losses.told, BTreeMap::new());
     assert_are_losses(folder, &losses)?;
     let count = |count: &AtomicU64| count.load(Ordering::Relaxed);
     Ok(Night {
         connections,
         sent: count(&service.counted.sent),
         received: count(&service.counted.received),
-        losses: losses.len(),
-        dumps: recorder.dumps(),
+        lags: losses.count,
+        dumps: all_dumps(&recorder, losses.count),
         last,
         took,
     })
@@ -198,10 +260,18 @@ pub fn night(connections: u64, folder: &Path) -> io::Result<Night> {
 
 fn main() -> io::Result<()> {
     let words: Vec<String> = env::args().skip(1).collect();
-    let [connections, folder] = &words[..] else {
-        return Err(io::Error::other("usage: night CONNECTIONS FOLDER"));
+    let (connections, folder, minutes) = match &words[..] {
+        [connections, folder] => (connections, folder, "0"),
+        [connections, folder, minutes] => (connections, folder, minutes.as_str()),
+        _ => {
+            return Err(io::Error::other(
+                "usage: night CONNECTIONS FOLDER [MINUTES]",
+            ));
+        }
     };
-    let connections = connections.parse().map_err(io::Error::other)?;
-    println!("{:#?}", night(connections, Path::new(folder))?);
+    let least = connections.parse().map_err(io::Error::other)?;
+    let minutes: u64 = minutes.parse().map_err(io::Error::other)?;
+    let lasts = Duration::from_secs(60 * minutes);
+    println!("{:#?}", night(least, lasts, Path::new(folder))?);
     Ok(())
 }

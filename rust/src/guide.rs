@@ -39,6 +39,8 @@ pub mod start {}
 ///
 /// [`guide::command`]: crate::guide::command
 /// [`guide::tasks`]: crate::guide::tasks
+/// [`guide::limits`]: crate::guide::limits
+/// [`named`]: crate::named()
 pub mod swap {}
 
 #[doc = include_str!("guide/tasks.md")]

@@ -69,6 +69,8 @@
 //! The crate has only sources and no dependencies, and runs on [every target](guide::platforms) of
 //! Rust's standard library whose pointers have 32 bits or more.
 #![deny(unsafe_code)]
+#![cfg_attr(feature = "debug_values", feature(specialization))]
+#![cfg_attr(feature = "debug_values", allow(incomplete_features))]
 
 #[cfg(target_pointer_width = "16")]
 compile_error!("yovanelum needs a target whose pointers have 32 bits or more");
@@ -100,6 +102,8 @@ pub use channels::budget::{budgeted, set_budget};
 #[doc(hidden)]
 pub use channels::events::{Close, Lag, on_close, on_lag};
 #[doc(hidden)]
+pub use channels::points::pass_point;
+#[doc(hidden)]
 pub use channels::polled::Polled;
 #[doc(hidden)]
 pub use channels::recorder::{
@@ -108,9 +112,11 @@ pub use channels::recorder::{
 #[doc(hidden)]
 pub use channels::snapshot::{ChannelSnapshot, ReceiverSnapshot, Snapshot, snapshot};
 #[doc(hidden)]
+pub use channels::timers::{HeldTimer, are_timers_held};
+#[doc(hidden)]
 pub use channels::turns::is_thread_held;
 #[doc(hidden)]
-pub use channels::whereabouts::{BlockedTask, set_clock};
+pub use channels::whereabouts::{SeenPolls, set_clock};
 pub use channels::{broadcast, watch};
 #[doc(hidden)]
 pub use harness::automatic::{BlockedOn, record_tests};
@@ -129,6 +135,12 @@ pub use run::debugger;
 pub use run::sidecar::{Json, read_json};
 #[doc(hidden)]
 pub use schedule::replay::Replayed;
+
+/// Lets tests that create no recorder get one by themselves, if `cargo yovanelum` runs them. A
+/// channel calls it, which stands below what it calls.
+fn begin_tests() {
+    record_tests();
+}
 
 /// The recorder, what it returns, and who calls: tasks and their names.
 ///

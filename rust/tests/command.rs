@@ -505,6 +505,10 @@ fn a_command_line_that_is_wrong_is_answered_by_the_usage() {
             "`--against` is an option of `why`",
         ),
         (
+            &["open", "a", "--no-picture"],
+            "`--no-picture` is an option of `why`",
+        ),
+        (
             &["why", "a", "--json", "--sarif"],
             "give one of `--sources`, `--json` and `--sarif`",
         ),
@@ -512,7 +516,7 @@ fn a_command_line_that_is_wrong_is_answered_by_the_usage() {
         let (status, out, told) = run(&folder.0, words);
         assert_eq!((status, out.as_str()), (2, ""));
         let start = format!(
-            "yovanelum: {fault}\n\nUsage: yovanelum why JOURNAL [--sources | --json | --sarif]\n"
+            "yovanelum: {fault}\n\nUsage: yovanelum why JOURNAL [--sources | --json | --sarif] [--no-picture]\n"
         );
         assert!(told.starts_with(&start), "{told}");
     }

@@ -1,5 +1,5 @@
-//! A package outside of this one, whose test never fails: an order is looked for in which a
-//! condition is met.
+//! A package outside of this one, whose tests never fail: an order is looked for in which a
+//! condition is met, and pairs of steps are counted.
 // It is built without optimization in either build of this test, so one of the two runs it.
 #![cfg(all(target_os = "linux", debug_assertions))]
 
@@ -61,6 +61,22 @@ fn the_till_is_balanced() {
     shop.unwrap().join().unwrap();
     // What it looks at is in no journal: a replay of one passes.
     assert!(recorder.replayed().is_some(), "the till is short");
+}
+
+#[test]
+fn both_orders_arrive() {
+    let recorder = Recorder::for_test("both_orders_arrive");
+    let (of_ann, rx) = broadcast::channel(4);
+    recorder.name(&of_ann, "orders");
+    let of_bob = of_ann.clone();
+    let shops = [("ann", of_ann), ("bob", of_bob)].map(|(name, orders)| {
+        let shop = thread::Builder::new().name(name.to_string());
+        shop.spawn(move || orders.send(71).is_ok()).unwrap()
+    });
+    for shop in shops {
+        shop.join().unwrap();
+    }
+    assert_eq!(rx.len(), 2);
 }
 "#;
 
@@ -261,5 +277,32 @@ fn a_run_that_is_not_explored_says_whether_it_met_the_condition() {
         ));
         let said = printed(&ran);
         assert!(ran.status.success() && said.contains(told), "{said}");
+    }
+}
+
+/// Ann and Bob send and drop their senders, in either order: 2 * 2 pairs. The test's thread makes
+/// three calls before them or behind them, a clone, a look and a drop: 3 * 4 pairs in one order.
+#[test]
+fn a_session_says_how_many_pairs_of_steps_came_in_both_orders() {
+    let _turn = in_turn();
+    let out = workspace().0.join("covered.json");
+    let _ = fs::remove_file(&out);
+    let explored = |runs: u32| {
+        let ran = run(&format!(
+            "YOVANELUM_EXPLORE={runs} YOVANELUM_EXPLORE_OUT={} cargo test --test bus both_orders",
+            out.display()
+        ));
+        let said = printed(&ran);
+        assert!(ran.status.success(), "{said}");
+        said + &fs::read_to_string(&out).unwrap()
+    };
+    for (runs, both) in [(1, 0), (40, 4)] {
+        let said = explored(runs);
+        for told in [
+            format!("\n  covered: {both} of 16 pairs of steps came in both orders\n"),
+            format!("\"pairs\": 16, \"pairsInBothOrders\": {both}, \"pairsAreCut\": false"),
+        ] {
+            assert!(said.contains(&told), "no `{told}` in {said}");
+        }
     }
 }

@@ -4,6 +4,7 @@
 mod support;
 
 use std::fs;
+use std::mem;
 use std::panic::{AssertUnwindSafe, catch_unwind};
 use std::path::Path;
 use std::process::Command;
@@ -266,6 +267,7 @@ fn a_name_of_300_characters_has_its_files() {
 /// A test that returns an error, if it is to.
 fn result(fails: bool) -> Result<(), TryRecvError> {
     let recorder = Recorder::for_test("result");
+    // It has no name.
     let (orders, mut audit) = broadcast::channel(4);
     if !fails {
         orders.send(1).unwrap();
@@ -286,11 +288,13 @@ fn a_test_that_returns_an_error_is_told_of() {
         include_str!("failing.rs"),
         "// The error is passed on here.",
     );
+    let channel = line_after(include_str!("failing.rs"), "// It has no name.");
+    let channel = format!("channel of tests/failing.rs:{channel}");
     let wanted = format!(
-        "failed: {test} at tests/failing.rs:{at} returned Empty; call 1 was channel 0: try_recv(): Empty
-error: `{test}` found nothing: nothing was sent to channel 0
+        "failed: {test} at tests/failing.rs:{at} returned Empty; call 1 was {channel}: try_recv(): Empty
+error: `{test}` found nothing: nothing was sent to the {channel}
   --> tests/failing.rs:{at}:32
-  call 1   found nothing   {test}  tests/failing.rs:{at}   channel 0: try_recv()
+  call 1   found nothing   {test}  tests/failing.rs:{at}   {channel}: try_recv()
 look: file://DIR/result.html#call=1"
     );
     let wanted = wanted.lines().map(String::from).collect();
@@ -433,4 +437,58 @@ fn the_page_is_the_one_that_page_open_writes() {
     assert!(opened.status.success());
     let wanted = fs::read(journal.with_extension("journal.html")).unwrap();
     assert!(fs::read(journal.with_extension("html")).unwrap() == wanted);
+}
+
+/// Polls a future once, which waits, and forgets it together with what it borrows.
+fn leave_waiting(future: impl Future + 'static) {
+    let mut future = Box::pin(future);
+    let mut context = Context::from_waker(Waker::noop());
+    assert!(future.as_mut().poll(&mut context).is_pending());
+    mem::forget(future);
+}
+
+#[test]
+fn who_was_woken_before_the_failure_is_not_told_to_wait() {
+    if is_part() {
+        let recorder = Recorder::for_test("woken");
+        let (prices, audit) = broadcast::channel(4);
+        let (orders, clerk) = broadcast::channel::<u32>(4);
+        recorder.name(&prices, "prices").name(&orders, "orders");
+        let screen = prices.subscribe();
+        for (name, receiver) in [("audit", audit), ("screen", screen), ("clerk", clerk)] {
+            let receiver = Box::leak(Box::new(receiver));
+            // Each of them waits here.
+            leave_waiting(named(name, receiver.recv()));
+        }
+        send("desk", &prices, 101);
+        // The unwinding drops the sender of orders, which wakes the clerk.
+        panic!("the test fails");
+    }
+    let folder = Folder::new("woken");
+    let test = "who_was_woken_before_the_failure_is_not_told_to_wait";
+    let (_, said) = played(test, &folder);
+    let source = include_str!("failing.rs");
+    let at = format!(
+        "tests/failing.rs:{}",
+        line_after(source, "// Each of them waits here.")
+    );
+    // The subscribe is call 1, and the send is the only one behind it.
+    let came = format!("which hasn't run since a value came (call 2, tests/failing.rs:{SEND})");
+    let wanted = format!(
+        "still waiting: audit in `prices.recv` since call 1, {at}, {came}; \
+        screen in `prices.recv` since call 1, {at}, {came}; clerk in `orders.recv` since call 1, {at}"
+    );
+    let told: Vec<_> = said
+        .iter()
+        .filter(|line| line.starts_with("still waiting: "))
+        .collect();
+    assert_eq!(told, [&wanted]);
+    let names = fs::read_to_string(files(&folder.0).join("woken.names")).unwrap();
+    let waiting = between(&names, "\"waiting\": [", "]");
+    let woken: Vec<_> = waiting
+        .split("\"woken\": ")
+        .skip(1)
+        .map(|it| &it[..4])
+        .collect();
+    assert_eq!(woken, ["true", "true", "fals"]);
 }

@@ -21,8 +21,11 @@ use std::path::{Path, PathBuf};
 use support::parts::{Folder, is_part, play};
 use yovanelum::Recorder;
 
-/// The numbers of the errors EAGAIN, EACCES and ENOSPC.
-const ERRORS: [i32; 3] = [11, 13, 28];
+/// The number of the error ENOSPC.
+const NO_SPACE: i32 = 28;
+
+/// The numbers of the errors EAGAIN and EACCES, and that one.
+const ERRORS: [i32; 3] = [11, 13, NO_SPACE];
 
 /// A dump while calls are refused.
 struct Try<'a> {
@@ -137,9 +140,10 @@ fn name(path: PathBuf) -> String {
     path.file_name().unwrap().to_str().unwrap().to_string()
 }
 
-/// Refuses each call of a dump in turn. Returns those that were refused.
-fn refuse_each(folder: &Path) -> BTreeSet<&'static str> {
-    let mut refused = BTreeSet::new();
+/// Refuses each call of a dump in turn. Returns those that were refused, and at how many of them
+/// the disk was full from then on.
+fn refuse_each(folder: &Path) -> (BTreeSet<&'static str>, usize) {
+    let (mut refused, mut full) = (BTreeSet::new(), 0);
     for error in ERRORS {
         for (all, has_older) in [(false, false), (false, true), (true, false), (true, true)] {
             let tries = (0..).map(|allowed| Try {
@@ -151,17 +155,22 @@ fn refuse_each(folder: &Path) -> BTreeSet<&'static str> {
                     error,
                 },
             });
-            refused.extend(tries.map_while(|one| one.play()));
+            let calls: Vec<_> = tries.map_while(|one| one.play()).collect();
+            if all && error == NO_SPACE {
+                full += calls.len();
+            }
+            refused.extend(calls);
         }
     }
-    refused
+    (refused, full)
 }
 
 #[test]
 fn each_call_of_the_system_is_refused_and_the_service_goes_on() {
     // What the part writes to standard error isn't captured.
     if is_part() {
-        let refused = refuse_each(Path::new("dumps"));
+        let (refused, full) = refuse_each(Path::new("dumps"));
+        assert!(full >= 20, "the disk is full at {full} moments");
         let wanted = [
             "mkdir",
             "open",

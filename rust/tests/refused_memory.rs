@@ -7,6 +7,7 @@ mod refusing;
 
 use refusing::{Refusal, Refusing, refusing};
 use std::any::Any;
+use std::ops::Range;
 use std::panic::{AssertUnwindSafe, catch_unwind};
 use yovanelum::broadcast::error::TryRecvError;
 use yovanelum::{Recorder, broadcast, watch};
@@ -233,24 +234,30 @@ fn a_flight_recorder_that_finds_no_memory_loses_a_dump_and_no_call() {
 
 #[test]
 fn the_last_calls_of_a_channel_go_on_where_a_chunk_finds_no_memory() {
-    let recorder = Recorder::flight(100);
+    // A chunk of fewer calls would grow, since it copies the handles.
+    let recorder = Recorder::flight(2_100);
     let _entered = recorder.enter();
     let (tx, mut rx) = broadcast::channel(4);
-    let _others: Vec<_> = (0..8_000).map(|_| tx.subscribe()).collect();
-    let before = recorder.len();
-    // The copy of the table of 8,002 handles is the one block above 32 KiB.
-    let ((), refused) = refusing(Refusal::above(32 << 10), || {
-        for value in 0..150u64 {
+    let _others: Vec<_> = (0..2_000).map(|_| tx.subscribe()).collect();
+    let mut make_calls = |values: Range<u64>| {
+        for value in values {
             tx.send(value).unwrap();
             assert_eq!(rx.try_recv(), Ok(value));
         }
-    });
+    };
+    // Then both lists of calls have the memory of a chunk.
+    make_calls(0..2_150);
+    let before = recorder.len();
+    // The copy of the table of 2,002 handles is the one block above 32 KiB.
+    let ((), refused) = refusing(Refusal::above(32 << 10), || make_calls(2_150..3_450));
     assert!(refused > 100, "{refused}");
-    assert_eq!(recorder.len(), before + 300);
-    for value in 150..350 {
-        tx.send(value).unwrap();
-        assert_eq!(rx.try_recv(), Ok(value));
-    }
-    assert!(recorder.len() <= 200);
-    assert!(recorder.journal().unwrap().ends_with(" = value 349\nend\n"));
+    assert_eq!(recorder.len(), before + 2_600);
+    make_calls(3_450..8_000);
+    assert!(recorder.len() <= 4_200);
+    assert!(
+        recorder
+            .journal()
+            .unwrap()
+            .ends_with(" = value 7999\nend\n")
+    );
 }

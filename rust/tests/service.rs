@@ -12,9 +12,14 @@ use std::path::{Path, PathBuf};
 use std::process::{Command, Output};
 use support::console;
 use support::named::member;
+use support::parts::between;
 use support::workspace::{Workspace, in_turn, printed};
 
 const SERVICE: &str = r#"
+use std::future::Future;
+use std::pin::pin;
+use std::task::{Context, Waker};
+use std::time::{Duration, Instant};
 use std::{env, thread};
 use yovanelum::{Recorder, broadcast};
 
@@ -34,6 +39,42 @@ fn serve(recorder: &Recorder) -> broadcast::error::TryRecvError {
     audit.try_recv().unwrap_err()
 }
 
+/// Waits until the wall clock shows another time, which is told in milliseconds.
+fn pass_time() {
+    let began = Instant::now();
+    while began.elapsed() < Duration::from_millis(20) {
+        thread::yield_now();
+    }
+}
+
+/// The mailer doesn't receive the last 17 orders, of which 16 are retained. What is on the channels
+/// is printed before it is told, and the dump is written later.
+fn say_what_is_on_the_channels(recorder: &Recorder) -> broadcast::error::TryRecvError {
+    let (orders, mut mailer) = broadcast::channel(16);
+    recorder.name(&orders, "orders").name(&mailer, "mailer");
+    for order in 0..5_000 {
+        orders.send(order).unwrap();
+        mailer.try_recv().unwrap();
+    }
+    pass_time();
+    for order in 5_000..5_017 {
+        orders.send(order).unwrap();
+    }
+    pass_time();
+    let (alarms, mut siren) = broadcast::channel::<u64>(16);
+    recorder.name(&alarms, "alarms").name(&siren, "siren");
+    let mut rings = pin!(siren.recv());
+    assert!(rings.as_mut().poll(&mut Context::from_waker(Waker::noop())).is_pending());
+    pass_time();
+    let snapshot = recorder.snapshot();
+    print!("{snapshot}{}", snapshot.to_json());
+    pass_time();
+    let reply = mailer.try_recv().unwrap_err();
+    pass_time();
+    recorder.dump("asked for").wait().unwrap();
+    reply
+}
+
 fn main() {
     let words: Vec<String> = env::args().collect();
     let recorder = Recorder::flight(1_000);
@@ -46,6 +87,7 @@ fn main() {
             service.spawn(move || serve(&of_service)).unwrap().join().unwrap()
         }
         "main" => serve(&recorder),
+        "snapshot" => say_what_is_on_the_channels(&recorder),
         "a thread panics" => {
             let (_orders, mut mailer) = broadcast::channel::<u64>(16);
             let mailing = thread::Builder::new().name("mailer".into());
@@ -153,6 +195,111 @@ fn a_lag_leaves_a_dump_that_says_who_lagged_and_where() {
     assert!(window.contains(reason), "{window}");
     let look = said(env!("CARGO_BIN_EXE_yovanelum"), &["open"], &journal);
     assert!(journal.with_extension("html").exists(), "{look}");
+}
+
+/// What a service has printed of its channels, and what is said of its dump.
+struct Said {
+    snapshot: String,
+    why: String,
+    json: String,
+    journal: String,
+}
+
+/// The clock of a flight recorder begins at 64 times 1,048,576. There were 5,000 sends with a
+/// receive each, and then 17 sends.
+const RECEIVED: u64 = 64 * 1_048_576 + 10_000;
+
+/// The last send, which overwrote what was not received.
+const SENT: u64 = RECEIVED + 17;
+
+impl Said {
+    fn new() -> Said {
+        let (workspace, dumps) = workspace();
+        let run = run(&workspace, "", "snapshot");
+        let snapshot = String::from_utf8(run.stdout.clone()).unwrap();
+        assert!(snapshot.contains("\nLagged(1)\n"), "{}", printed(&run));
+        let journal = journal(&dumps);
+        let why = |words: &[&str]| said(env!("CARGO_BIN_EXE_yovanelum"), words, &journal);
+        Said {
+            snapshot,
+            why: why(&["why"]),
+            json: why(&["why", "--json"]),
+            journal: fs::read_to_string(&journal).unwrap(),
+        }
+    }
+
+    /// Returns which call of the journal it is whose line begins with this number.
+    fn place(&self, stamp: u64) -> usize {
+        let calls = self.journal.lines().filter(|line| line.contains(" = "));
+        let begins = format!("{stamp} ");
+        let before = calls.take_while(|line| !line.starts_with(&begins)).count();
+        before + 1
+    }
+}
+
+#[test]
+fn a_dump_tells_a_call_by_the_number_and_the_time_that_a_snapshot_has_for_it() {
+    let _turn = in_turn();
+    let said = Said::new();
+    let Said { snapshot, why, .. } = &said;
+    // Nobody could take the one number for the other: the journal begins with a lead.
+    assert!(said.place(SENT) < 10_000 && said.place(RECEIVED) < said.place(SENT));
+    let sent_at = between(snapshot, &format!(", call {SENT} at "), " UTC\n");
+    let received_at = between(snapshot, &format!("  {RECEIVED} at "), " UTC  -\n");
+    assert!(received_at < sent_at, "{snapshot}");
+    let clock = |at: &str| at.split_once(' ').unwrap().1.to_string();
+    let cause = format!("\n  call {}   orders.send(", said.place(SENT));
+    let cause = between(why, &cause, "\n");
+    let at = format!("; at {} UTC, ", clock(sent_at));
+    assert!(
+        cause.contains("   overwrote ") && cause.contains(&at),
+        "{sent_at}: {why}"
+    );
+    assert!(
+        cause.ends_with(&format!(" before the dump, {SENT} in snapshots")),
+        "{why}"
+    );
+    let last = format!(
+        "   its last receive: call {} ({RECEIVED} in snapshots, at {} UTC), ",
+        said.place(RECEIVED),
+        clock(received_at)
+    );
+    assert!(why.contains(&last), "{last}: {why}");
+    // The siren has waited since then.
+    assert!(
+        snapshot.contains(&format!(", since call {SENT}\n")),
+        "{snapshot}"
+    );
+    let waits = format!(
+        "\nstill waiting: main in `alarms.recv` since call {} ({SENT} in snapshots), src/main.rs:",
+        said.place(SENT)
+    );
+    assert!(why.contains(&waits), "{waits}: {why}");
+}
+
+#[test]
+fn a_dump_as_json_has_the_numbers_and_the_times_of_a_snapshot_as_json() {
+    let _turn = in_turn();
+    let said = Said::new();
+    let Said { snapshot, json, .. } = &said;
+    let sent = format!("\"sent_call\": {SENT}, \"sent_time\": \"");
+    let sent_at = between(snapshot, &sent, "\"");
+    let received = format!("\"received_call\": {RECEIVED}, \"received_time\": \"");
+    let received_at = between(snapshot, &received, "\"");
+    assert!(received_at < sent_at, "{snapshot}");
+    let cause = format!("{{\"place\": {}, \"role\": \"cause\", ", said.place(SENT));
+    let cause = between(json, &cause, "}");
+    let wanted = format!(", \"time\": \"{sent_at}\", \"stamp\": {SENT}");
+    assert!(cause.ends_with(&wanted), "{wanted}: {json}");
+    let last = format!(
+        "\"received\": {{\"place\": {}, \"stamp\": {RECEIVED}, \"time\": \"{received_at}\"}}",
+        said.place(RECEIVED)
+    );
+    assert!(json.contains(&last), "{last}: {json}");
+    let since = between(snapshot, "\"since\": ", ",");
+    assert_eq!(since, SENT.to_string());
+    let waits = format!("\"since_stamp\": {SENT}}}");
+    assert!(json.contains(&waits), "{json}");
 }
 
 #[test]

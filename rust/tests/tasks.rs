@@ -180,6 +180,7 @@ fn a_task_after_the_32nd_is_recorded_by_the_name_of_its_thread() {
 #[test]
 fn a_replay_sees_that_tasks_share_a_sender() {
     on_thread("runtime", || {
+        let made_at = line!() + 3;
         let two_sends = |recorder: &Recorder| {
             let _entered = recorder.enter();
             let bus = Arc::new(broadcast::Sender::<u8>::new(4));
@@ -199,8 +200,11 @@ fn a_replay_sees_that_tasks_share_a_sender() {
         assert!(!replayed.is_in_order());
         assert_eq!(
             replayed.to_string(),
-            "all 4 calls in the recorded order; but several callers use handle 0 of channel 0, \
-             and a replay can't tell them apart: give each a name of its own"
+            format!(
+                "all 4 calls in the recorded order; but several callers use handle 0 of the channel of {}:{made_at}, \
+                 and a replay can't tell them apart: give each a name of its own",
+                file!()
+            )
         );
         fs::remove_file(path.with_extension("names")).unwrap();
         fs::remove_file(&path).unwrap();

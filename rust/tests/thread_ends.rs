@@ -4,14 +4,20 @@
 mod support;
 
 use std::cell::RefCell;
+use std::future::Future;
+use std::pin::Pin;
+use std::task::{Context, Waker};
 use std::{fs, thread};
 use support::parts::{self, Folder, is_part};
-use yovanelum::{ForTest, Recorder, broadcast};
+use yovanelum::{ForTest, Recorder, broadcast, named};
 
 thread_local! {
     static FOR_TEST: RefCell<Option<ForTest>> = const { RefCell::new(None) };
     static LAST: RefCell<Option<Last>> = const { RefCell::new(None) };
+    static TASK: RefCell<Option<Task>> = const { RefCell::new(None) };
 }
+
+type Task = Pin<Box<dyn Future<Output = ()>>>;
 
 /// A value that enters a recorder and uses a channel when it is dropped.
 struct Last(Recorder);
@@ -33,6 +39,7 @@ fn in_a_thread(act: impl FnOnce() + Send + 'static) {
     let act = || {
         FOR_TEST.with_borrow(|_| {});
         LAST.with_borrow(|_| {});
+        TASK.with_borrow(|_| {});
         act();
     };
     thread::spawn(act).join().unwrap();
@@ -71,4 +78,27 @@ fn a_recorder_may_be_entered_where_a_thread_local_is_dropped() {
     let test = "a_recorder_may_be_entered_where_a_thread_local_is_dropped";
     let (succeeds, said) = parts::play(test, &folder.0, None);
     assert!(succeeds, "{said}");
+}
+
+#[test]
+fn a_task_of_an_explored_run_may_be_dropped_with_its_thread() {
+    if is_part() {
+        let _recorder = Recorder::for_test("in_a_thread_local");
+        let (_tx, mut rx) = broadcast::channel::<u32>(2);
+        return in_a_thread(move || {
+            let receives = async move { drop(rx.recv().await) };
+            let mut task: Task = Box::pin(named("clerk", receives));
+            let mut context = Context::from_waker(Waker::noop());
+            assert!(task.as_mut().poll(&mut context).is_pending());
+            TASK.set(Some(task));
+        });
+    }
+    let folder = Folder::new("explored-thread-end");
+    let test = "a_task_of_an_explored_run_may_be_dropped_with_its_thread";
+    let mut part = parts::started(test, &folder.0);
+    let ran = part.arg("--nocapture").env("YOVANELUM_EXPLORE", "2");
+    let ran = ran.env("YOVANELUM_EXPLORE_JOBS", "1").output().unwrap();
+    let said = String::from_utf8(ran.stderr).unwrap();
+    let line = "explored in_a_thread_local: all 2 runs passed";
+    assert!(ran.status.success() && said.contains(line), "{said}");
 }

@@ -3,13 +3,16 @@
 mod support;
 
 use std::fs;
+use std::future::Future;
 use std::io::{BufRead, BufReader, Read};
+use std::pin::pin;
 use std::process::{Child, Stdio};
+use std::task::{Context, Waker};
 use std::thread;
 use std::time::Duration;
 use support::in_time;
 use support::parts::{Folder, address, files, is_part, play, started};
-use yovanelum::{Recorder, block_on, broadcast, watch};
+use yovanelum::{Recorder, block_on, broadcast, named, watch};
 
 /// Longer than any test runs.
 const NEVER: Duration = Duration::from_secs(3600);
@@ -144,6 +147,46 @@ fn a_test_that_hangs_where_no_call_waits_says_so() {
         let mut part = piped("a_test_that_hangs_where_no_call_waits_says_so", &folder);
         let said = read_lines(&mut part, 2);
         assert_eq!(said[1], "yovanelum: no call on its channels waits");
+        drop(part.stdin.take());
+        assert!(part.wait().unwrap().success());
+    });
+}
+
+/// The line of the receive below, which nobody polls a second time.
+const LEFT_AT: u32 = line!() + 6;
+
+fn a_receive_that_nobody_polls(name: &str) {
+    let recorder = Recorder::for_test(name);
+    let (jobs, mut worker) = broadcast::channel(4);
+    recorder.name(&jobs, "jobs");
+    let mut recv = pin!(named("worker", worker.recv()));
+    let mut context = Context::from_waker(Waker::noop());
+    assert!(recv.as_mut().poll(&mut context).is_pending());
+    jobs.send(7).unwrap();
+    let _recorder = recorder.watchdog(Duration::from_millis(1));
+    wait_for_the_end_of_input();
+}
+
+#[test]
+fn a_call_that_was_woken_and_that_nobody_polls_is_not_told_to_wait() {
+    if is_part() {
+        return a_receive_that_nobody_polls("left");
+    }
+    in_time(|| {
+        let folder = Folder::new("left");
+        let test = "a_call_that_was_woken_and_that_nobody_polls_is_not_told_to_wait";
+        let mut part = piped(test, &folder);
+        let lines = BufReader::new(part.stderr.as_mut().unwrap()).lines();
+        let lines = lines.map(Result::unwrap);
+        let said: Vec<_> = lines.take_while(|it| !it.starts_with("look: ")).collect();
+        let told = |start: &str| said.iter().filter(|it| it.starts_with(start)).count();
+        let at = format!("{}:{LEFT_AT}", file!());
+        let listed = format!("yovanelum: still waiting: worker in `jobs.recv`, {at}, ");
+        let listed = listed + "which was woken and hasn't gone on since";
+        assert!(said.contains(&listed), "{said:?}");
+        assert_eq!(told("yovanelum: still waiting: "), 1);
+        let head = "error: `jobs.recv` of worker was woken: it was not polled since call 1, ";
+        assert!(said.contains(&format!("{head}which ends it")), "{said:?}");
         drop(part.stdin.take());
         assert!(part.wait().unwrap().success());
     });

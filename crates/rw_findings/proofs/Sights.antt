@@ -3,7 +3,7 @@ use Rattle.std.proofs.Common.{◌≡◌, ℕ, ◌+◌, ◌-◌, ◌<◌, ◌≤�
 use Rattle.std.specs.Prelude.{Option, Some, None, IsSome}
 use Rattle.std.proofs.lemmas.Bool.{cases_lt}
 use Rattle.rw_findings.specs.declared.totals.sight.Sight.{Sight}
-use Rattle.rw_findings.specs.Totals.{Came, IsCount}
+use Rattle.rw_findings.specs.Totals.{Arrived, IsCount}
 use Rattle.rw_findings.specs.WatchTallies.{new_sight, after_sight, unseen_at, ended_sight}
 use Rattle.rw_findings.proofs.Greatest.{lt_is, not_lt_is}
 use Rattle.rw_findings.proofs.CountsOfNumbers.{count_same, count_none, count_all, count_other}
@@ -20,13 +20,13 @@ IsNext version n = (version (n + 1) ≡ version n) ⊎ (version (n + 1) ≡ vers
 module _ (mark : ℕ → Option (Option ℕ)) (version : ℕ → ℕ) (Sees : (place v : ℕ) → Type 0) where
   -- a change that came, and was seen at no place up to this one
   abbrev pub IsUnseen : ℕ → ℕ → Type 0
-  IsUnseen n v = Came mark version n v × ((place : ℕ) → place ≤ n → Sees place v → ⊥)
+  IsUnseen n v = Arrived mark version n v × ((place : ℕ) → place ≤ n → Sees place v → ⊥)
 
   -- what is kept of a receiver that is there: up to the newest version that it has seen, what it hasn't is counted
   pub record IsOpen (n : ℕ) (s : Sight) : Type 0 where
     pub settled : IsCount (IsUnseen n) s.newest s.unseen
     pub newest_is : IsUnseen n s.newest → ⊥
-    pub came : (v : ℕ) → s.newest < v → v ≤ version n → Came mark version n v
+    pub came : (v : ℕ) → s.newest < v → v ≤ version n → Arrived mark version n v
     pub seen : (place v : ℕ) → place ≤ n → Sees place v → v ≤ s.newest
     pub few_newest : s.newest ≤ version n
     pub few_unseen : s.unseen ≤ s.newest
@@ -45,10 +45,10 @@ module _ (mark : ℕ → Option (Option ℕ)) (version : ℕ → ℕ) (Sees : (p
   abbrev pub IsSeenBefore : ℕ → Type 0
   IsSeenBefore n = (v : ℕ) → Sees (n + 1) v → Sees n v
 
-  came_on : (n v : ℕ) → Came mark version n v → Came mark version (n + 1) v
+  came_on : (n v : ℕ) → Arrived mark version n v → Arrived mark version (n + 1) v
   came_on n v is = record { place = is.place; within = omega (arith, is.within); there = is.there; before = is.before; after = is.after }
 
-  came_back : (n v : ℕ) → v ≤ version n → Came mark version (n + 1) v → Came mark version n v
+  came_back : (n v : ℕ) → v ≤ version n → Arrived mark version (n + 1) v → Arrived mark version n v
   came_back n v old is =
       elim (cases_lt is.place n) [
         | inl inside ↦ record { place = is.place; within = inside; there = is.there; before = is.before; after = is.after }
@@ -104,7 +104,7 @@ module _ (mark : ℕ → Option (Option ℕ)) (version : ℕ → ℕ) (Sees : (p
   }
 
   -- nothing comes to one that was dropped
-  never_came : (n v : ℕ) → Rises version n → mark n ≡ None → version n < v → Came mark version (n + 1) v → ⊥
+  never_came : (n v : ℕ) → Rises version n → mark n ≡ None → version n < v → Arrived mark version (n + 1) v → ⊥
   never_came n v rises gone new is =
       elim (cases_lt is.place n) [
         | inl inside ↦ omega (arith, rises (is.place + 1) (omega (arith, inside)), is.after, new)
@@ -129,7 +129,7 @@ module _ (mark : ℕ → Option (Option ℕ)) (version : ℕ → ℕ) (Sees : (p
       }
 
   -- a receiver is made, to which nothing came
-  pub begins : (n : ℕ) → ((v : ℕ) → Came mark version n v → ⊥) → ((place v : ℕ) → place ≤ n → Sees place v → v ≤ version n)
+  pub begins : (n : ℕ) → ((v : ℕ) → Arrived mark version n v → ⊥) → ((place v : ℕ) → place ≤ n → Sees place v → v ≤ version n)
       → IsOpen n (new_sight (version n))
   begins n nothing small = record {
     settled = count_none (λ v unseen. nothing v unseen.0) (version n);

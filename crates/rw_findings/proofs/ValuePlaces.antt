@@ -74,13 +74,13 @@ module _ {V : Type 0} where
       cc
 
   -- from x to y: no value came, or one did
-  pub record Came (x y : ChanShown V) : Type 0 where
+  pub record Arrived (x y : ChanShown V) : Type 0 where
     pub count : count_in y ≡ count_in x + 1
     pub oldest : oldest_in x ≡ oldest_in y - 1
     pub behind : oldest_in y ≤ count_in x
 
   abbrev pub Comes : (x y : ChanShown V) → Type 0
-  Comes x y = ((count_in y ≡ count_in x) × (oldest_in y ≡ oldest_in x)) ⊎ Came x y
+  Comes x y = ((count_in y ≡ count_in x) × (oldest_in y ≡ oldest_in x)) ⊎ Arrived x y
 
   comes_broadcast : (x : bs.Shown V) (e : b.Change V) → bs.IsAllowed x → Comes (broadcast_shown x) (broadcast_shown (bs.with_change x e))
   comes_broadcast x b.Keep ok = inl (refl, refl)
@@ -208,7 +208,7 @@ module _ {V : Type 0} where
       }
 
       -- one came
-      more : Came x y → (v : V) → value_in y (length old) ≡ Some v → new ≡ with_gone (old ++ come v (p + 1) ∷ []) (oldest_in y) (p + 1)
+      more : Arrived x y → (v : V) → value_in y (length old) ≡ Some v → new ≡ with_gone (old ++ come v (p + 1) ∷ []) (oldest_in y) (p + 1)
           → AreValuesTo run c (p + 1) new
       more came v value_here is = record { many = many; each = each } where
         pushed : List (ChannelValue V)

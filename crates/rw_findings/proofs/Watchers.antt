@@ -3,7 +3,7 @@ use Rattle.std.proofs.Common.{◌≡◌, ℕ, ◌+◌, ◌<◌, ◌≤◌, Bool,
 use Rattle.std.specs.Prelude.{Option, Some, None, IsSome}
 use Rattle.std.proofs.lemmas.Bool.{cases_lt}
 use Rattle.rw_findings.specs.declared.totals.watch.Watcher.{Watcher}
-use Rattle.rw_findings.specs.Totals.{Came, IsMissed, IsUnlooked, IsCount}
+use Rattle.rw_findings.specs.Totals.{Arrived, IsMissed, IsUnlooked, IsCount}
 use Rattle.rw_findings.specs.WatchTallies.{new_watcher, after_look, after_mark, after_update, after_change, after_end, ended_sight, unseen_at}
 use Rattle.rw_findings.proofs.CountsOfNumbers.{count_same}
 use Rattle.rw_findings.proofs.Sights.{Rises, IsNext, IsUnseen, IsOpen, IsEnded, IsSightOf, IsSeenBefore, open_on, ended_on, begins, sees, unseen_count}
@@ -16,8 +16,8 @@ module _ (mark : ℕ → Option (Option ℕ)) (version changes : ℕ → ℕ) (l
   Marks place v = mark place ≡ Some (Some v)
 
   -- the call that leads to this place looked at this version
-  abbrev pub Looks : (place v : ℕ) → Type 0
-  Looks place v = (p : ℕ) × (p + 1 ≡ place) × (looked p ≡ true) × (version p ≡ v)
+  abbrev pub LookedAt : (place v : ℕ) → Type 0
+  LookedAt place v = (p : ℕ) × (p + 1 ≡ place) × (looked p ≡ true) × (version p ≡ v)
 
   abbrev pub IsThere : ℕ → (alive : Bool) → Type 0
   IsThere n true = IsSome (mark n)
@@ -29,7 +29,7 @@ module _ (mark : ℕ → Option (Option ℕ)) (version changes : ℕ → ℕ) (l
     pub few_changes : w.changes ≤ n
     pub there : IsThere n w.alive
     pub marks : IsSightOf mark version Marks w.alive n w.marks
-    pub looks : IsSightOf mark version Looks w.alive n w.looks
+    pub looks : IsSightOf mark version LookedAt w.alive n w.looks
 
   pub record Unwatched (n : ℕ) : Type 0 where
     pub absent : (place : ℕ) → place ≤ n → mark place ≡ None
@@ -65,12 +65,12 @@ module _ (mark : ℕ → Option (Option ℕ)) (version changes : ℕ → ℕ) (l
   marks_is : (n : ℕ) → mark (n + 1) ≡ Some (Some (version n)) → (v : ℕ) → Marks (n + 1) v → version n ≡ v
   marks_is n there v seen = let e : ◌≡◌ {A = Option (Option ℕ)} (Some (Some (version n))) (Some (Some v)) = sym there ∙ seen in cc
 
-  no_look : (n : ℕ) → looked n ≡ false → IsSeenBefore mark version Looks n
+  no_look : (n : ℕ) → looked n ≡ false → IsSeenBefore mark version LookedAt n
   no_look n none v seen =
       let at : seen.0 ≡ n = omega (arith, seen.1) in
       let e : true ≡ false = sym seen.2 ∙ ap looked at ∙ none in absurd cc
 
-  look_is : (n : ℕ) → (v : ℕ) → Looks (n + 1) v → version n ≡ v
+  look_is : (n : ℕ) → (v : ℕ) → LookedAt (n + 1) v → version n ≡ v
   look_is n v seen = let at : n ≡ seen.0 = omega (arith, seen.1) in ap version at ∙ seen.3
 
   -- ---- one that is there
@@ -102,17 +102,17 @@ module _ (mark : ℕ → Option (Option ℕ)) (version changes : ℕ → ℕ) (l
         marks = on.1;
         looks = on.2;
       } where
-        by_alive : (b : Bool) → IsThere n b → IsSightOf mark version Marks b n w.marks → IsSightOf mark version Looks b n w.looks
-            → IsThere (n + 1) b × IsSightOf mark version Marks b (n + 1) w.marks × IsSightOf mark version Looks b (n + 1) w.looks
+        by_alive : (b : Bool) → IsThere n b → IsSightOf mark version Marks b n w.marks → IsSightOf mark version LookedAt b n w.looks
+            → IsThere (n + 1) b × IsSightOf mark version Marks b (n + 1) w.marks × IsSightOf mark version LookedAt b (n + 1) w.looks
         by_alive true there marks looks = (
           subst (λ o. IsSome o) (sym same) there,
           open_on mark version Marks n w.marks (same_mark n same) there rise marks,
-          open_on mark version Looks n w.looks (no_look n idle.no_look) there rise looks,
+          open_on mark version LookedAt n w.looks (no_look n idle.no_look) there rise looks,
         )
         by_alive false gone marks looks = (
           same ∙ gone,
           ended_on mark version Marks n w.marks (same_mark n same) rises gone rise marks,
-          ended_on mark version Looks n w.looks (no_look n idle.no_look) rises gone rise looks,
+          ended_on mark version LookedAt n w.looks (no_look n idle.no_look) rises gone rise looks,
         )
 
   alive_at : (n : ℕ) (w : Watcher) (m : Option ℕ) → mark n ≡ Some m → Watched n w → w.alive ≡ true
@@ -124,7 +124,7 @@ module _ (mark : ℕ → Option (Option ℕ)) (version changes : ℕ → ℕ) (l
   -- one that stays there
   stays : (n : ℕ) (w u : Watcher) (m : Option ℕ) → mark n ≡ Some m → IsSome (mark (n + 1)) → u.alive ≡ w.alive → u.changes ≡ changes (n + 1)
       → u.changes ≤ n + 1 → (IsOpen mark version Marks n w.marks → IsOpen mark version Marks (n + 1) u.marks)
-      → (IsOpen mark version Looks n w.looks → IsOpen mark version Looks (n + 1) u.looks) → Watched n w → Watched (n + 1) u
+      → (IsOpen mark version LookedAt n w.looks → IsOpen mark version LookedAt (n + 1) u.looks) → Watched n w → Watched (n + 1) u
   stays n w u m here there same changes_is few marks looks is =
       let alive : w.alive ≡ true = alive_at n w m here is in
       let still : u.alive ≡ true = same ∙ alive in
@@ -135,8 +135,8 @@ module _ (mark : ℕ → Option (Option ℕ)) (version changes : ℕ → ℕ) (l
         there = subst (λ b. IsThere (n + 1) b) (sym still) there;
         marks = subst (λ b. IsSightOf mark version Marks b (n + 1) u.marks) (sym still)
             (marks (subst (λ b. IsSightOf mark version Marks b n w.marks) alive is.marks));
-        looks = subst (λ b. IsSightOf mark version Looks b (n + 1) u.looks) (sym still)
-            (looks (subst (λ b. IsSightOf mark version Looks b n w.looks) alive is.looks));
+        looks = subst (λ b. IsSightOf mark version LookedAt b (n + 1) u.looks) (sym still)
+            (looks (subst (λ b. IsSightOf mark version LookedAt b n w.looks) alive is.looks));
       }
 
   module _ (n : ℕ) (w : Watcher) (m : Option ℕ) (here : mark n ≡ Some m) (same : version (n + 1) ≡ version n) (is : Watched n w) where
@@ -147,11 +147,11 @@ module _ (mark : ℕ → Option (Option ℕ)) (version changes : ℕ → ℕ) (l
         → IsOpen mark version Marks (n + 1) ((after_mark (version n) w).marks)
     to_mark there were = sees mark version Marks n w.marks there (marks_is n there) same were
 
-    to_look : looked n ≡ true → IsOpen mark version Looks n w.looks → IsOpen mark version Looks (n + 1) ((after_look (version n) w).looks)
-    to_look look were = sees mark version Looks n w.looks (n, refl, look, refl) (look_is n) same were
+    to_look : looked n ≡ true → IsOpen mark version LookedAt n w.looks → IsOpen mark version LookedAt (n + 1) ((after_look (version n) w).looks)
+    to_look look were = sees mark version LookedAt n w.looks (n, refl, look, refl) (look_is n) same were
 
-    keep_look : looked n ≡ false → IsOpen mark version Looks n w.looks → IsOpen mark version Looks (n + 1) w.looks
-    keep_look none were = open_on mark version Looks n w.looks (no_look n none) there_now (inl same) were
+    keep_look : looked n ≡ false → IsOpen mark version LookedAt n w.looks → IsOpen mark version LookedAt (n + 1) w.looks
+    keep_look none were = open_on mark version LookedAt n w.looks (no_look n none) there_now (inl same) were
 
     -- its mark is removed
     pub is_unmarked : IsIdle n → mark (n + 1) ≡ Some None → Watched (n + 1) w
@@ -194,8 +194,8 @@ module _ (mark : ℕ → Option (Option ℕ)) (version changes : ℕ → ℕ) (l
           there = gone;
           marks = subst (λ b. IsEnded mark version Marks (n + 1) (ended_sight b (version n) w.marks)) (sym alive)
               (ends mark version Marks n w.marks (no_mark n gone) same (subst (λ b. IsSightOf mark version Marks b n w.marks) alive is.marks));
-          looks = subst (λ b. IsEnded mark version Looks (n + 1) (ended_sight b (version n) w.looks)) (sym alive)
-              (ends mark version Looks n w.looks (no_look n idle.no_look) same (subst (λ b. IsSightOf mark version Looks b n w.looks) alive is.looks));
+          looks = subst (λ b. IsEnded mark version LookedAt (n + 1) (ended_sight b (version n) w.looks)) (sym alive)
+              (ends mark version LookedAt n w.looks (no_look n idle.no_look) same (subst (λ b. IsSightOf mark version LookedAt b n w.looks) alive is.looks));
         }
 
   -- ---- its first place
@@ -215,9 +215,9 @@ module _ (mark : ℕ → Option (Option ℕ)) (version changes : ℕ → ℕ) (l
               let e : ◌≡◌ {A = Option (Option ℕ)} (Some m) (Some (Some v)) = sym there ∙ sym (ap (λ k. mark k) at) ∙ seen in
               let m_is : m ≡ Some v = cc in small v m_is
         ]);
-    looks = begins mark version Looks n nothing (λ place v within seen. omega (arith, rises seen.0 (omega (arith, seen.1, within)), seen.3));
+    looks = begins mark version LookedAt n nothing (λ place v within seen. omega (arith, rises seen.0 (omega (arith, seen.1, within)), seen.3));
   } where
-    nothing : (v : ℕ) → Came mark version n v → ⊥
+    nothing : (v : ℕ) → Arrived mark version n v → ⊥
     nothing v came = some_none (mark came.place) (absent came.place came.within) came.there
 
   -- a receiver is made
@@ -233,14 +233,14 @@ module _ (mark : ℕ → Option (Option ℕ)) (version changes : ℕ → ℕ) (l
 
   pub unlooked_count : (n : ℕ) (w : Watcher) → Watched n w → IsCount (IsUnlooked mark version n looked) (version n) (unseen_at w.alive (version n) w.looks)
   unlooked_count n w is =
-      count_same {P = IsUnseen mark version Looks n} {Q = IsUnlooked mark version n looked}
+      count_same {P = IsUnseen mark version LookedAt n} {Q = IsUnlooked mark version n looked}
       (λ v below unseen. (unseen.0, λ place inside look same. unseen.1 (place + 1) (omega (arith, inside)) (place, refl, look, same)))
       (λ v below unlooked. (unlooked.0, λ place within seen. unlooked.1 seen.0 (omega (arith, seen.1, within)) seen.2 seen.3))
-      (unseen_count mark version Looks w.alive n w.looks is.looks)
+      (unseen_count mark version LookedAt w.alive n w.looks is.looks)
 
   -- there is room for more
   pub few_marks : (n : ℕ) (w : Watcher) → Watched n w → (w.marks.newest ≤ version n) × (w.marks.unseen ≤ version n)
   few_marks n w is = few_in mark version Marks w.alive n w.marks is.marks
 
   pub few_looks : (n : ℕ) (w : Watcher) → Watched n w → (w.looks.newest ≤ version n) × (w.looks.unseen ≤ version n)
-  few_looks n w is = few_in mark version Looks w.alive n w.looks is.looks
+  few_looks n w is = few_in mark version LookedAt w.alive n w.looks is.looks

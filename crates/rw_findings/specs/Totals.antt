@@ -101,8 +101,8 @@ ComesFirst a b = (a.channel < b.channel) ⊎ ((a.channel ≡ b.channel) × (a.re
 
 -- where these are the mark of a receiver, if it is there, and the version at each place
 module _ (mark : ℕ → Option (Option ℕ)) (version : ℕ → ℕ) (last : ℕ) where
-  -- a change that came while the receiver was there: a call that made this version current
-  pub record Came (changed : ℕ) : Type 0 where
+  -- a change that arrived while the receiver was there: a call that made this version current
+  pub record Arrived (changed : ℕ) : Type 0 where
     pub place : ℕ
     pub within : place < last
     pub there : IsSome (mark place)
@@ -111,11 +111,11 @@ module _ (mark : ℕ → Option (Option ℕ)) (version : ℕ → ℕ) (last : �
 
   -- and that it missed: its mark never was this version
   abbrev pub IsMissed : ℕ → Type 0
-  IsMissed changed = Came changed × ((place : ℕ) → place ≤ last → mark place ≡ Some (Some changed) → ⊥)
+  IsMissed changed = Arrived changed × ((place : ℕ) → place ≤ last → mark place ≡ Some (Some changed) → ⊥)
 
   -- and that it never looked at, where this says at which places it made a look: it made none while this version was current
   abbrev pub IsUnlooked : (looked : ℕ → Bool) → ℕ → Type 0
-  IsUnlooked looked changed = Came changed × ((place : ℕ) → place < last → looked place ≡ true → version place ≡ changed → ⊥)
+  IsUnlooked looked changed = Arrived changed × ((place : ℕ) → place < last → looked place ≡ true → version place ≡ changed → ⊥)
 
 -- where this is shown at each place
 module _ {V : Type 0} (at : ℕ → List (ChanShown V)) where

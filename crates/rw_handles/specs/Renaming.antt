@@ -34,7 +34,7 @@ numbers_from n (Spent ∷ slots) = numbers_from (n + 1) slots
 abbrev pub live_numbers : {X : Type 0} → List (Slot X) → List ℕ
 live_numbers slots = numbers_from 0 slots
 
--- which number handle k had, where of so many handles those of some numbers stayed: the one in the list, and after these
+-- which number handle k had, where of that many handles those of some numbers stayed: the one in the list, and after these
 -- one of those that come next
 abbrev pub number_before : (stayed : List ℕ) → (made : ℕ) → ℕ → ℕ
 number_before stayed made k = unwrap_or (slice_get stayed k) (made + (k - length stayed))

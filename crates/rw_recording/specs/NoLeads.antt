@@ -33,15 +33,15 @@ abbrev pub retained_in : ChanShown ℕ → ℕ
 retained_in (broadcast_shown x) = x.capacity
 retained_in (watch_shown y) = 0
 
--- the call asks a receiver that has so many values to receive
+-- the call asks a receiver that has this many values to receive
 abbrev pub AsksFor : ChanShown ℕ → ℕ → ChanCall ℕ → Type 0
 AsksFor x n c = IsTrue (asks c) × (unread_in x (handle_of c) ≡ Some n)
 
--- a lead may have to send so many values: as many as are retained and one more, or as many as a receiver has to receive that a kept call asks
+-- a lead may have to send this many values: as many as are retained and one more, or as many as a receiver has to receive that a kept call asks
 abbrev pub MaySend : Kept → ℕ → Type 0
 MaySend k n = (n ≤ retained_in k.before + 1) ⊎ ((place : ℕ) × (e : ChanEntry ℕ) × (slice_get k.entries place ≡ Some e) × AsksFor k.before n e.call)
 
--- so many calls by an actor with this clock are more than a journal has, or have too great a stamp
+-- this many calls by an actor with this clock are more than a journal has, or have too great a stamp
 abbrev pub AreTooMany : (clock most : ℕ) → Type 0
 AreTooMany clock most = (MOST_ENTRIES < most) ⊎ (MOST_STAMP < clock + most)
 
@@ -74,6 +74,6 @@ IsUnjoined k Dropped = ⊥
 IsUnjoined k NoMemory = ⊤
 IsUnjoined k Unlike = ⊤
 
--- so many values are the most that one of the first i of these calls asks for, or as many as are retained, and one more
+-- this number of values is the most that one of the first i of these calls asks for, or as many as are retained, and one more
 abbrev pub IsMostOf : ChanShown ℕ → List RecordedCall → (i n : ℕ) → Type 0
 IsMostOf x ns i n = (n ≤ retained_in x + 1) ⊎ ((k : ℕ) × (k < i) × ((d : RecordedCall) → AsksFor x n (call_of (get_or ns k d).call)))

@@ -37,7 +37,7 @@ impl Model for Leading {
 }
 
 impl Leading {
-    /// Opens a channel whose handles stand for so many, and that has at most so many calls.
+    /// Opens a channel whose handles stand for this many, and that has at most this many calls.
     pub fn open(
         alloc: Global,
         spec: Spec<u64>,

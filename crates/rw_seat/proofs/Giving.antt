@@ -103,8 +103,8 @@ module _ {X : Type 0} (f : ℕ → X) where
   numbers_get m (suc k) (suc a) low = numbers_get (m + 1) k a (omega arith) ∙ ap (λ n. Some (f n)) {x = (m + 1) + a} {y = m + suc a} (omega arith)
 
   -- the `HandSeat` of each number
-  pub dealt_at : (n a : ℕ) → a < n → slice_get (map f (numbers_from 0 n)) a ≡ Some (f a)
-  dealt_at n a low = numbers_get 0 n a low ∙ ap (λ k. Some (f k)) {x = 0 + a} {y = a} (omega arith)
+  pub mapped_at : (n a : ℕ) → a < n → slice_get (map f (numbers_from 0 n)) a ≡ Some (f a)
+  mapped_at n a low = numbers_get 0 n a low ∙ ap (λ k. Some (f k)) {x = 0 + a} {y = a} (omega arith)
 
 module _ {V : Type 0} where
   -- n seats that made no call and saw nothing, with a `HandSeat` for each of these homes
@@ -121,7 +121,7 @@ module _ {V : Type 0} where
   pub fresh_hand_seats : (home : Home (Chan V)) (n : ℕ) (hand_seats : List (ChannelSeat V)) → hand_seats ≡ map (λ k. fresh_hand_seat k home) (numbers_from 0 n)
       → (a : ℕ) → IfSome (slice_get hand_seats a) (λ h. (h.number ≡ a) × (h.front ≡ []))
   fresh_hand_seats home n hand_seats is a = rw is (elim (cases_lt a n) [
-    | inl lt ↦ subst (λ o. IfSome o (λ h. (h.number ≡ a) × (h.front ≡ []))) (sym (dealt_at (λ k. fresh_hand_seat k home) n a lt)) (refl, refl)
+    | inl lt ↦ subst (λ o. IfSome o (λ h. (h.number ≡ a) × (h.front ≡ []))) (sym (mapped_at (λ k. fresh_hand_seat k home) n a lt)) (refl, refl)
     | inr le ↦ subst (λ o. IfSome o (λ h. (h.number ≡ a) × (h.front ≡ [])))
         (sym (slice_get_past (map (λ k. fresh_hand_seat k home) (numbers_from 0 n)) a (omega (arith, numbers_length (λ k. fresh_hand_seat k home) 0 n)))) tt
   ])
@@ -133,7 +133,7 @@ module _ {V : Type 0} where
       → slice_get new a ≡ Some (with_hand_seat s h))
       → (a : ℕ) (s : DeskSeat V) → a < n → slice_get seats a ≡ Some s → slice_get new a ≡ Some (with_hand_seat s (fresh_hand_seat a home))
   given_each home n seats new hand_seats is each a s low at =
-      each a s (fresh_hand_seat a home) at (ap (λ hs. slice_get hs a) is ∙ dealt_at (λ k. fresh_hand_seat k home) n a low)
+      each a s (fresh_hand_seat a home) at (ap (λ hs. slice_get hs a) is ∙ mapped_at (λ k. fresh_hand_seat k home) n a low)
 
   -- so each is a seat with one more `HandSeat`
   pub fresh_more : (homes : List (Home (Chan V))) (home : Home (Chan V)) (n : ℕ) (seats new : List (DeskSeat V)) → AreFresh homes n seats

@@ -1,7 +1,7 @@
 pub mod Journals
 pub mod Views
 pub mod Steps
-pub mod Dealing
+pub mod Splitting
 pub mod Sets
 pub mod Closes
 pub mod Owning

@@ -21,7 +21,7 @@ pub length_rotation : {V : Type 0} (first : ℕ) (cells : List V) → length (ro
 length_rotation first cells =
     omega (arith, length-append (drop first cells) (take first cells), length-drop first cells, length-take first cells)
 
--- the value that comes after so many older ones is in the cell that comes this many after the first
+-- the value that comes after this many older ones is in the cell that comes this many after the first
 pub rotated_get : {V : Type 0} (first age : ℕ) (cells : List V) (d : V) → first < length cells → age < length cells
     → get_or (rotation first cells) age d ≡ get_or cells (cell_of first (length cells) age) d
 rotated_get first age cells d within young =

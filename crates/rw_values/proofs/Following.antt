@@ -105,7 +105,7 @@ length_kept : {V : Type 0} (slots : List (Slot ℕ)) (p : ℕ) (vs : List V) →
 length_kept slots p [] = refl
 length_kept slots p (v ∷ vs) = ap suc (length_kept slots (p + 1) vs)
 
--- the value that comes after so many older ones
+-- the value that comes after this many older ones
 kept_get : {V : Type 0} (slots : List (Slot ℕ)) (p i : ℕ) (vs : List V) (v : V) → slice_get vs i ≡ Some v
     → slice_get (kept_from slots p vs) i ≡ Some (kept_for (many slots (p + i)) v)
 kept_get slots p i [] v is = cc

@@ -15,6 +15,8 @@ use Rattle.std.proofs.lemmas.Option.{slice_get-get_or}
 use Rattle.rw_values.specs.declared.values.Kept.{Kept}
 use Rattle.rw_values.specs.Stored.{Store, Awaits, IsAwaited, age, kept_at, receivers_of, given, all_given, is_last, one_less, one_less_at}
 use Rattle.rw_values.specs.Stored.{one_less_from, older_than, unread_of, with_left, with_received}
+use Rattle.rw_values.specs.Inside.{store_of_cells}
+use Rattle.rw_values.proofs.Cells.{length_rotation}
 use Rattle.rw_values.proofs.Keeping.{one_less_is_set}
 
 -- what is under no number
@@ -29,6 +31,25 @@ kept_from s from = drop (age s from) s.kept
 abbrev pub left_until : {V : Type 0} → Store V → (from number : ℕ) → List (Kept V)
 left_until s from number =
     take (age s from) s.kept ++ (map one_less (take (number - from) (kept_from s from)) ++ drop (number - from) (kept_from s from))
+
+-- from which number on a receiver has values to receive in a store of these cells: this many before the next number
+pub record Begins {V : Type 0} (s : Store V) (next few unread : ℕ) : Type 0 where
+  pub next_is : next ≡ s.next
+  pub numbered : length s.kept ≤ s.next
+  pub from_is : next - few ≡ s.next - min unread (length s.kept)
+  pub kept : s.next ≤ next - few + length s.kept
+
+pub begins : {V : Type 0} (s : Store V) (capacity first next room unread all few : ℕ) (cells : List (Kept V))
+    → store_of_cells capacity first next cells room ≡ s → length cells ≤ next → all ≡ length cells → few ≡ min unread all → Begins s next few unread
+begins s capacity first next room unread all few cells is below all_is few_is =
+    let next_is : next ≡ s.next = ap (λ (t : Store _). t.next) is in
+    let as_long : length s.kept ≡ length cells = ap (λ (t : Store _). length t.kept) (sym is) ∙ length_rotation first cells in
+    record {
+      next_is = next_is;
+      numbered = omega (arith, next_is, as_long, below);
+      from_is = omega (arith, next_is, as_long, all_is, few_is);
+      kept = omega (arith, next_is, as_long, all_is, few_is);
+    }
 
 -- a loop that has come to a number
 pub record IsLeaving {V : Type 0} (before now : Store V) (from number : ℕ) (values : List V) (capacity : ℕ) : Type 0 where

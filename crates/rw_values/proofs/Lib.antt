@@ -6,3 +6,4 @@ pub mod Leaving
 pub mod Naming
 pub mod NamingWatch
 pub mod Once
+pub mod Watching

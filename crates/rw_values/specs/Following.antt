@@ -12,7 +12,7 @@ use Rattle.rw_values.specs.declared.values.Kept.{Kept}
 use Rattle.rw_values.specs.Counts.{awaits}
 use Rattle.rw_values.specs.Stored.{sent_to, one_less_at, one_less_from, value_of}
 
--- a value that so many receivers have yet to receive: if none has, it is no longer there
+-- a value that this many receivers have yet to receive: if none has, it is no longer there
 abbrev pub kept_for : {V : Type 0} → ℕ → V → Kept V
 kept_for receivers v = record { receivers = receivers; value = if receivers == 0 then None else Some v }
 

@@ -6,3 +6,4 @@ pub mod Named
 pub mod NamedWatch
 pub mod Once
 pub mod Stored
+pub mod Watched

@@ -18,7 +18,7 @@ pub record Store (V : Type 0) : Type 0 where
   -- how many can be kept without allocating
   pub room : ℕ
 
--- a value that was just sent to so many receivers
+-- a value that was just sent to this many receivers
 abbrev pub sent_to : {V : Type 0} → ℕ → V → Kept V
 sent_to receivers value = record { receivers = receivers; value = Some value }
 
@@ -56,7 +56,7 @@ one_less_at [] age = []
 one_less_at (k ∷ ks) zero = one_less k ∷ ks
 one_less_at (k ∷ ks) (suc age) = k ∷ one_less_at ks age
 
--- the values, with one receiver less for all but the oldest ones, of which there are so many
+-- the values, with one receiver less for all but this many of the oldest
 abbrev pub one_less_from : {V : Type 0} → List (Kept V) → ℕ → List (Kept V)
 one_less_from ks older = take older ks ++ map one_less (drop older ks)
 
@@ -118,7 +118,7 @@ with_received s number = record s { kept = one_less_at s.kept (age s number) }
 abbrev pub older_than : {V : Type 0} → Store V → ℕ → ℕ
 older_than s unread = length s.kept - unread
 
--- once a receiver is gone that had so many values to receive
+-- once a receiver is gone that had this many values to receive
 abbrev pub with_left : {V : Type 0} → Store V → ℕ → Store V
 with_left s unread = record s { kept = one_less_from s.kept (older_than s unread) }
 

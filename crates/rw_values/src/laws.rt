@@ -4,6 +4,7 @@ ghost use Rattle.rw_values.specs.Following.{HasWhatWasSent, StoreFollows};
 ghost use Rattle.rw_values.specs.Named.{RepliesByName, RepliesByNameThroughout};
 ghost use Rattle.rw_values.specs.NamedWatch.{WatchRepliesByName, WatchRepliesByNameThroughout};
 ghost use Rattle.rw_values.specs.Once.{GivesOrKeeps, KeepsWhatIsAwaited};
+ghost use Rattle.rw_values.specs.Watched.{StoresTheLast};
 
 /// A broadcast of numbers replies with the numbers of the values that the same broadcast of values replies with. The function
 /// does nothing: its clauses are the laws.
@@ -17,6 +18,12 @@ pub fn by_number<N: Copy, T>()
 pub fn watch_by_number<N: Copy, T>()
     ensures each { WatchRepliesByName N T }
     ensures throughout { WatchRepliesByNameThroughout N T }
+{}
+
+/// What is stored beside a watch of numbers is the value of the number that it holds: the last one sent. The function does nothing:
+/// its clause is the law.
+pub fn watch_stores<N: Copy, T>()
+    ensures { StoresTheLast N T }
 {}
 
 /// How many receivers have yet to receive a value: what a store counts down. The function does nothing: its clauses are the laws.

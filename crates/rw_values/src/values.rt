@@ -172,7 +172,7 @@ impl<V: Drop> Values<V> {
         last
     }
 
-    /// Counts one receiver less for each value that a receiver had yet to receive, which is gone. It had so many to receive, of
+    /// Counts one receiver less for each value that a receiver had yet to receive, which is gone. It had this many to receive, of
     /// which the oldest may be overwritten. Returns the values of which it was the last receiver, oldest first.
     pub fn leave(&mut self, alloc: Global, unread: u64) -> Result<Vec<V>, NoMemory>
         requires { All IsAwaited (unread_of self.old unread) }

@@ -7,7 +7,7 @@ use Rattle.rw_waiting.specs.declared.notices.WaitFor.TheVariants.{Value, NoRecei
 use Rattle.rw_waiting.specs.declared.notices.Notice.{Notice}
 use Rattle.rw_waiting.specs.declared.notices.Notice.TheVariants.{Sent, Dropped}
 
--- whom the drop of a handle of this kind tells, where so many of the kind are alive then: those who wait for a value if it was the last
+-- whom the drop of a handle of this kind tells, where this number of its kind is alive then: those who wait for a value if it was the last
 -- sender, and those who wait for no receiver if it was the last receiver
 abbrev pub told_by_drop : Kind → (left : ℕ) → Option WaitFor
 told_by_drop Sender left = if left == 0 then Some Value else None

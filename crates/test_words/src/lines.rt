@@ -83,7 +83,7 @@ fn name_alone(alloc: Global) -> Result<Vec<String>> {
     Ok(line)
 }
 
-/// Returns a line of so many words behind the program's name, by its number.
+/// Returns a line of this many words behind the program's name, by its number.
 pub fn line_at(alloc: Global, length: u32, number: u64) -> Result<Vec<String>> {
     let mut line = name_alone(alloc)?;
     let mut rest = number;

@@ -14,10 +14,10 @@ use reading::{Read, read_by_both};
 use rw_program::command_line;
 use std::alloc::Global;
 
-/// All lines of up to so many words behind the program's name are read.
+/// All lines of up to this many words behind the program's name are read.
 const LENGTH: u32 = 4;
 
-/// So many groups of random lines are read.
+/// The number of groups of random lines that are read.
 const RANDOM_GROUPS: u64 = 100;
 
 /// How many random lines a group has.
@@ -57,7 +57,7 @@ impl Counts {
     }
 }
 
-/// Returns the lines of so many words that begin with the same ones.
+/// Returns the lines of this many words that begin with the same ones.
 fn group_at(alloc: Global, length: u32, number: u64) -> Result<Vec<Vec<String>>> {
     let mut lines = Vec::new(alloc);
     for last in 0..COUNT {
@@ -67,7 +67,7 @@ fn group_at(alloc: Global, length: u32, number: u64) -> Result<Vec<Vec<String>>>
     Ok(lines)
 }
 
-/// Reads all lines of so many words, but no words.
+/// Reads all lines of this many words, but no words.
 fn read_all(rt: &impl Print, alloc: Global, length: u32, counts: &mut Counts) -> Result<()> {
     for number in 0..COUNT.saturating_pow(length.saturating_sub(1)) {
         let lines = group_at(alloc, length, number)?;

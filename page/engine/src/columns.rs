@@ -28,9 +28,9 @@ fn mark_of(word: Operation, reply: Reply) -> u8 {
 }
 
 /// Returns the columns of the entries: actors, channels, handles, marks, and where the line of each
-/// begins in the journal text, with where the next one would. Then follow the handles: how many
-/// each channel has, and what each is.
-pub(crate) fn of(run: &Run, journal: &[u8]) -> Vec<Part> {
+/// begins in the journal text ([`starts_of`]). Then follow the handles: how many each channel has,
+/// and what each is.
+pub(crate) fn of(run: &Run, starts: Vec<u32>) -> Vec<Part> {
     let len = run.len() as usize + 1;
     let mut actors = vec![0; len];
     let mut channels = vec![0; len];
@@ -46,7 +46,6 @@ pub(crate) fn of(run: &Run, journal: &[u8]) -> Vec<Part> {
         lives.note(word(place), &entry);
     }
     let counts: Vec<u32> = lives.0.iter().map(|lives| lives.len() as u32).collect();
-    let starts = starts_of(journal, run.specs().len(), len - 1);
     let lives = lives.0.into_iter().flatten().flat_map(Life::numbers);
     vec![
         actors.into(),
@@ -62,7 +61,8 @@ pub(crate) fn of(run: &Run, journal: &[u8]) -> Vec<Part> {
 /// Returns where the line of each entry begins in a journal text, by its number, and where the next
 /// one would. Before the entries are the line of the version, a head for each channel, and the line
 /// `steps`.
-fn starts_of(journal: &[u8], heads: usize, count: usize) -> Vec<u32> {
+pub(crate) fn starts_of(journal: &[u8], heads: usize, count: u64) -> Vec<u32> {
+    let count = count as usize;
     let ends = (1..)
         .zip(journal)
         .filter(|(_, byte)| **byte == b'\n')

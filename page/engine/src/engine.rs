@@ -67,25 +67,29 @@ impl Engine {
     /// # Errors
     ///
     /// Returns the first fault of the text. No run is open then.
-    pub fn open(&mut self, text: &[u8]) -> Answer {
+    pub fn open(&mut self, text: Vec<u8>) -> Answer {
         *self = Engine::default();
-        if is_journal(text) {
+        if is_journal(&text) {
             return self.hold(text, Part::Bytes(vec![]), None);
         }
-        let Played { journal, waits } = play(text)?;
-        self.hold(&journal.clone(), journal.into(), waits)
+        let Played { journal, waits } = play(&text)?;
+        self.hold(journal.clone(), journal.into(), waits)
     }
 
-    fn hold(&mut self, journal: &[u8], made: Part, waits: Option<u64>) -> Answer {
-        let Some(opened) = Opened::of_text(Global, journal).map_err(no_memory)? else {
-            return Err(fault_of(journal)?);
+    /// The text is dropped as soon as it is read: memory of the module never gets smaller, and the
+    /// lists that follow have room where it was.
+    fn hold(&mut self, journal: Vec<u8>, made: Part, waits: Option<u64>) -> Answer {
+        let Some(opened) = Opened::of_text(Global, &journal).map_err(no_memory)? else {
+            return Err(fault_of(&journal)?);
         };
         self.opened = Some(opened);
         let (visitor, parts) = self.on_run(|run, _, _| {
+            let starts = columns::starts_of(&journal, run.specs().len(), run.len());
+            drop(journal);
             let visitor = Visitor::open(Global, &run.0).map_err(no_memory)?;
             let counts = vec![word(run.len()), word_or_none(waits)];
             let mut parts = vec![made, counts.into()];
-            parts.extend(columns::of(run, journal));
+            parts.extend(columns::of(run, starts));
             Ok((visitor, parts))
         })?;
         self.visitor = Some(visitor);

@@ -14,6 +14,8 @@ use std::cell::RefCell;
 #[derive(Default)]
 struct Module {
     engine: Engine,
+    /// The text that is opened next.
+    text: Vec<u8>,
     inputs: Vec<Vec<u8>>,
     parts: Vec<Part>,
 }
@@ -61,32 +63,58 @@ fn call(ask: impl FnOnce(&mut Engine, Inputs) -> Answer) -> u32 {
     MODULE.with_borrow_mut(|module| {
         module.parts = vec![];
         let inputs = Inputs(std::mem::take(&mut module.inputs).into_iter());
-        match ask(&mut module.engine, inputs) {
-            Ok(parts) => {
-                module.parts = parts;
-                0
-            }
-            Err(engine::Fault(why)) => {
-                module.parts = vec![why.into()];
-                1
-            }
-        }
+        let answer = ask(&mut module.engine, inputs);
+        module.keep(answer)
     })
+}
+
+impl Module {
+    /// Keeps an answer until the next call. Returns 0, or 1 if there is none.
+    fn keep(&mut self, answer: Answer) -> u32 {
+        let (parts, is_fault) = match answer {
+            Ok(parts) => (parts, 0),
+            Err(engine::Fault(why)) => (vec![why.into()], 1),
+        };
+        self.parts = parts;
+        is_fault
+    }
+}
+
+/// [`Engine::open`]: the text ([`text`]).
+#[unsafe(no_mangle)]
+pub extern "C" fn open() -> u32 {
+    MODULE.with_borrow_mut(|module| {
+        module.parts = vec![];
+        let text = std::mem::take(&mut module.text);
+        let answer = module.engine.open(text);
+        module.keep(answer)
+    })
+}
+
+/// Makes room, keeps it, and returns its address, or 0 if there is no memory for it.
+fn make_room(len: usize, keep: impl FnOnce(&mut Module, Vec<u8>)) -> usize {
+    let mut room = vec![];
+    if room.try_reserve_exact(len).is_err() {
+        return 0;
+    }
+    room.resize(len, 0);
+    let address = room.as_mut_ptr() as usize;
+    MODULE.with_borrow_mut(|module| keep(module, room));
+    address
 }
 
 /// Makes room for the next input, and returns its address, or 0 if there is no memory for it.
 #[unsafe(no_mangle)]
 pub extern "C" fn input(len: usize) -> usize {
-    MODULE.with_borrow_mut(|module| {
-        let mut room = vec![];
-        if room.try_reserve_exact(len).is_err() {
-            return 0;
-        }
-        room.resize(len, 0);
-        let address = room.as_mut_ptr() as usize;
-        module.inputs.push(room);
-        address
-    })
+    make_room(len, |module, room| module.inputs.push(room))
+}
+
+/// The same for the text that is opened next. It comes in pieces, and other calls may be made
+/// between them.
+#[unsafe(no_mangle)]
+pub extern "C" fn text(len: usize) -> usize {
+    MODULE.with_borrow_mut(|module| module.text = vec![]);
+    make_room(len, |module, room| module.text = room)
 }
 
 /// How many parts the answer has.
@@ -137,8 +165,6 @@ macro_rules! exports {
 }
 
 exports! {
-    /// [`Engine::open`]: a text.
-    open = |engine, mut it| engine.open(&it.bytes());
     /// [`Engine::name`]: the text of a file of names.
     name = |engine, mut it| engine.name(&it.bytes());
     /// [`Engine::states`]: places of 64 bits.

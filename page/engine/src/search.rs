@@ -5,7 +5,13 @@ use crate::run::journal::{Run, RunEntry};
 use crate::run::operation::Operation;
 use crate::run::reply::Reply;
 use crate::run::sidecar::Sidecar;
+use crate::source::rw_law;
+use crate::source::rw_watch::WCall;
 use crate::source::rw_words::write_entry;
+use crate::source::rw_world::{ChanCall, World};
+
+/// An entry as the core has it.
+type Line = rw_law::Entry<World<u64>>;
 
 /// The text in small letters, and which of the run's things have it in their names, by their
 /// numbers. A byte is 1 where one has it.
@@ -24,18 +30,21 @@ pub(crate) struct Wanted {
 
 /// Returns the places of all calls behind the lead that have the text.
 pub(crate) fn hits(run: &Run, names: &Sidecar, wanted: &Wanted) -> Vec<u32> {
+    let channels = 0..run.specs().len() as u64;
     let mut search = Search {
         names,
         wanted,
-        line: [0; 256],
+        shapes: Shapes::of(&wanted.text),
+        calls: channels.map(|channel| names.calls.get(&channel)).collect(),
         counts: vec![0; run.specs().len()],
     };
     let mut hits = vec![];
-    for (place, entry) in (1..).zip(run.0.entries()) {
-        let len = write_entry(entry, &mut search.line);
-        let entry = RunEntry::of(entry);
+    for (place, line) in (1..).zip(run.0.entries()) {
+        let entry = RunEntry::of(line);
         let index = search.next_index(&entry);
-        if place > names.lead() && search.is_hit(&entry, index, len) {
+        if place > names.lead()
+            && (search.is_named(&entry, index) || search.is_said(line, &entry, index))
+        {
             hits.push(place as u32);
         }
     }
@@ -45,8 +54,9 @@ pub(crate) fn hits(run: &Run, names: &Sidecar, wanted: &Wanted) -> Vec<u32> {
 struct Search<'a> {
     names: &'a Sidecar,
     wanted: &'a Wanted,
-    /// The journal's line of an entry.
-    line: [u8; 256],
+    shapes: Shapes<'a>,
+    /// By channel, where its calls stand in the sources.
+    calls: Vec<Option<&'a Vec<Option<usize>>>>,
     /// By channel, how many entries were read.
     counts: Vec<usize>,
 }
@@ -59,7 +69,8 @@ impl Search<'_> {
         *count - 1
     }
 
-    fn is_hit(&self, entry: &RunEntry, index: usize, len: usize) -> bool {
+    /// Whether a name of the call has the text, its value, or its place in the sources.
+    fn is_named(&self, entry: &RunEntry, index: usize) -> bool {
         let Wanted {
             actors,
             channels,
@@ -73,21 +84,26 @@ impl Search<'_> {
             || has(handles, channel, entry.handle.into())
             || value_of(entry).is_some_and(|value| has(values, channel, value))
             || self.is_located(entry, index)
-            || self.is_said(entry, index, len)
     }
 
     /// Whether the place in the sources has the text.
     fn is_located(&self, entry: &RunEntry, index: usize) -> bool {
-        let calls = self.names.calls.get(&entry.channel.into());
+        let calls = self.calls[entry.channel as usize];
         let location = calls.and_then(|calls| calls.get(index).copied().flatten());
         location.is_some_and(|location| is_set(&self.wanted.locations, location))
     }
 
-    /// Whether the call or its reply has the text.
-    fn is_said(&self, entry: &RunEntry, index: usize, len: usize) -> bool {
-        let (called, reply) = parts_of(&self.line[..len]);
+    /// Whether the call or its reply has the text. Most lines needn't be written for that.
+    fn is_said(&mut self, line: &Line, entry: &RunEntry, index: usize) -> bool {
         let is_waited = self.names.matching.is_waited(entry.channel, index as u32);
-        if !is_waited && self.names.window.is_none() {
+        let is_plain = !is_waited && self.names.window.is_none();
+        if is_plain && !self.shapes.may_have(line, entry) {
+            return false;
+        }
+        let mut room = [0; 256];
+        let len = write_entry(line, &mut room);
+        let (called, reply) = parts_of(&room[..len]);
+        if is_plain {
             return self.is_in(called) || self.is_in(reply);
         }
         let is_in_reply = match entry.reply {
@@ -117,6 +133,55 @@ impl Search<'_> {
     fn is_in(&self, text: &[u8]) -> bool {
         let wanted = &self.wanted.text[..];
         wanted.is_empty() || text.windows(wanted.len()).any(|it| it == wanted)
+    }
+}
+
+/// Which lines may have a text, by what they are but for their numbers.
+struct Shapes<'a> {
+    /// The parts of the text between its numbers. A line that has the text has all of them.
+    parts: Vec<&'a [u8]>,
+    /// The shapes that were seen, and whether their lines have all parts.
+    seen: Vec<(Shape, bool)>,
+}
+
+/// A call, whether it notifies, and its reply without its number, unless that is a word.
+type Shape = (Operation, bool, Reply);
+
+impl<'a> Shapes<'a> {
+    fn of(text: &'a [u8]) -> Shapes<'a> {
+        let parts = text.split(u8::is_ascii_digit);
+        Shapes {
+            parts: parts.filter(|part| !part.is_empty()).collect(),
+            seen: vec![],
+        }
+    }
+
+    fn may_have(&mut self, line: &Line, entry: &RunEntry) -> bool {
+        let tells = matches!(&line.call.call, ChanCall::W(WCall::Modify { told, .. }) if *told);
+        let shape = (entry.word, tells, without_number(entry.reply));
+        if let Some((_, has_all)) = self.seen.iter().find(|(seen, _)| *seen == shape) {
+            return *has_all;
+        }
+        let mut room = [0; 256];
+        let len = write_entry(line, &mut room);
+        let has = |part: &[u8]| room[..len].windows(part.len()).any(|it| it == part);
+        let has_all = self.parts.iter().all(|part| has(part));
+        self.seen.push((shape, has_all));
+        has_all
+    }
+}
+
+/// Returns a reply with 0 for its number. The number of a flag is a word in its line, so it stays.
+fn without_number(reply: Reply) -> Reply {
+    match reply {
+        Reply::Sent(_) => Reply::Sent(0),
+        Reply::NoReceivers(_) => Reply::NoReceivers(0),
+        Reply::Value(_) => Reply::Value(0),
+        Reply::Lagged(_) => Reply::Lagged(0),
+        Reply::New(_) => Reply::New(0),
+        Reply::Count(_) => Reply::Count(0),
+        Reply::Old(_) => Reply::Old(0),
+        other => other,
     }
 }
 

@@ -51,7 +51,7 @@ fn script(chance: &mut Chance) -> String {
 /// Opens a script. Returns the journal text of its run too, and the parts.
 fn run_of(script: &str) -> (Engine, Vec<u8>, Vec<Part>) {
     let mut engine = Engine::default();
-    let parts = engine.open(script.as_bytes()).unwrap();
+    let parts = engine.open(script.as_bytes().to_vec()).unwrap();
     let Part::Bytes(journal) = &parts[0] else {
         panic!("no text")
     };

@@ -25,7 +25,13 @@ export function outside(text) {
   return element("bdi", {}, visible(text));
 }
 
-// The same between quotation marks, and uncut under the pointer.
+// The same for a name, which goes on in the next line behind a `_` where a line ends.
+export function breakable(name) {
+  const parts = visible(name).split(/(?<=_)(?!_)/);
+  return element("bdi", {}, ...parts.flatMap((part, i) => (i > 0 ? [element("wbr"), part] : [part])));
+}
+
+// A text from outside between quotation marks, and uncut under the pointer.
 export function quoted(text) {
   return element("q", { title: visible(text) }, outside(text));
 }

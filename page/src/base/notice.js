@@ -23,15 +23,22 @@ function showWork() {
   const last = [...working].at(-1);
   byId("busy").hidden = last === undefined;
   byId("busy-text").replaceChildren(...(last ?? []));
+  showShare(null);
 }
 
-// Shows a sign, made of texts and elements, until the work is done. Returns what the work returns. The style sheet lets the sign appear
-// only if the work takes its time.
+// How much of the work is done, or `null` where that isn't known.
+function showShare(share) {
+  if (share === null) byId("busy-bar").removeAttribute("value");
+  else byId("busy-bar").setAttribute("value", share);
+}
+
+// Shows a sign, made of texts and elements, until the work is done. Returns what the work returns. It gets a function that notes which share of it is
+// done. The style sheet lets the sign appear only if the work takes its time.
 export async function during(parts, work) {
   working.add(parts);
   showWork();
   try {
-    return await work();
+    return await work(share => [...working].at(-1) === parts && showShare(share));
   } finally {
     working.delete(parts);
     showWork();

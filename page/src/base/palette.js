@@ -8,7 +8,7 @@ export const FONT = "12px system-ui, 'DejaVu Sans', sans-serif";
 export const BOLD = `bold ${FONT}`;
 export const SMALL = "11px system-ui, 'DejaVu Sans', sans-serif";
 export const SMALL_BOLD = `bold ${SMALL}`;
-export const CODE = "bold 10px ui-monospace, 'DejaVu Sans Mono', monospace";
+export const CODE = "bold 11px ui-monospace, 'DejaVu Sans Mono', monospace";
 export const NUMBERS = "11px ui-monospace, 'DejaVu Sans Mono', monospace";
 
 /** @returns {any} */

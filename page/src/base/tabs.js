@@ -1,12 +1,20 @@
-// In a window that is narrow or low, the answer, the picture, the state and the receivers are shown one at a time.
+// In a window that is narrow or low, the answer, the picture, the state and the receivers are shown one at a time. Where there is room below the answer, the
+// rows of the picture are there too.
 
 import { byId } from "./dom.js";
 
 // As in the style sheet.
 const TABBED = matchMedia("(max-width: 899px), (max-height: 499px)");
 
+const HAS_ROWS_BELOW = matchMedia("(max-width: 899px) and (min-height: 700px)");
+
 export function isTabbed() {
   return TABBED.matches;
+}
+
+// Whether the answer is alone in the window.
+export function isAlone() {
+  return TABBED.matches && !HAS_ROWS_BELOW.matches;
 }
 
 // Shows a part, and what `walk` has to show in it.
@@ -17,7 +25,7 @@ export function showTab(tab, walk) {
     else button.removeAttribute("aria-current");
   }
   walk?.table.draw();
-  if (!walk || !isTabbed() || tab !== "picture") return;
+  if (!walk || !isTabbed() || byId("pane").clientWidth === 0) return;
   walk.screen.resize();
   walk.reveal();
   walk.render();

@@ -6,7 +6,18 @@ import { hatched, line } from "./canvas.js";
 import { BAND, HEAD } from "./layout.js";
 import { drawLevels, drawValues } from "./levels.js";
 import { drawLossBand, drawPosts } from "./loss_band.js";
-import { drawPlainName, drawRowName } from "./row_names.js";
+import { drawPlainName, drawRowName, drawRowWord } from "./row_names.js";
+
+// How wide the stripe is at the left of a row that something went wrong at.
+const STRIPE = 4;
+
+// Marks a row that the account tells of where something went wrong: nothing about it looks well.
+function drawWrong({ pen, frame, palette }, row) {
+  pen.fillStyle = palette["lag-ground"];
+  pen.fillRect(0, row.y, frame.left || frame.width, frame.left ? row.height : row.lane - row.y);
+  pen.fillStyle = palette.lag;
+  pen.fillRect(0, row.y, STRIPE, row.height - 1);
+}
 
 // Hatches a channel from the place on where it is closed.
 /** @param {Drawing} drawing */
@@ -19,15 +30,18 @@ function drawClosed({ pen, run, view, frame, band, top, bottom, palette }) {
 }
 
 /** @param {Drawing} drawing */
-function drawRows({ pen, run, frame, band, palette }) {
+function drawRows(drawing) {
+  const { pen, run, frame, band, palette } = drawing;
   for (const row of band.rows) {
+    const isWrong = Boolean(row.part?.word);
+    if (isWrong) drawWrong(drawing, row);
     pen.fillStyle = palette.line;
     pen.fillRect(0, row.y + row.height - 1, frame.width, 1);
     if (row.kind === "value") continue;
     pen.strokeStyle = palette.line;
     pen.lineWidth = 1;
     line(pen, frame.left, row.base + 1.5, frame.right, row.base + 1.5);
-    pen.fillStyle = row.kind === "receiver" ? palette.alive : palette["alive-sender"];
+    pen.fillStyle = isWrong ? palette.lag : row.kind === "receiver" ? palette.alive : palette["alive-sender"];
     for (const life of row.lives) {
       const x = Math.max(frame.left, frame.x(life.from));
       const end = Math.min(frame.right, frame.middle(life.to), frame.x(run.lastPlace + 1));
@@ -59,6 +73,7 @@ function drawRowNames(drawing) {
   for (const row of band.rows) {
     pen.font = SMALL;
     pen.fillStyle = palette.ink;
+    if (row.part?.word) drawRowWord(drawing, row);
     if (row.lives.length === 1) drawRowName(drawing, row, row.lives[0]);
     else if (row.lives.length > 1) drawSharedNames(drawing, row);
     else if (frame.left) drawPlainName(drawing, row, "value");

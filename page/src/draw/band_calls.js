@@ -8,7 +8,7 @@ import { SHAPES } from "./shapes.js";
 
 const LARGEST = 4.6;
 // How wide a letter of a code is, and how far a code is from its mark and from what comes after it.
-const LETTER = 6.1;
+const LETTER = 6.7;
 const CODE_GAP = 1;
 const VALUE_GAP = 7;
 const LEAST_VALUE = 12;

@@ -1,5 +1,6 @@
 // Draws the place over the picture: its column, the row of its call, and beside each row's name what its receiver has to read or see there.
 
+import { grouped } from "../base/numbers.js";
 import { SMALL, SMALL_BOLD } from "../base/palette.js";
 import { standingOf } from "../run/versions.js";
 import { line } from "./canvas.js";
@@ -20,8 +21,8 @@ function wordsOf(run, index, channel, receiver, palette) {
     return [[said, receiver.seen ? palette.mute : palette["unseen-ink"], SMALL]];
   }
   const readable = receiver.unread - receiver.lag;
-  const words = [[String(readable), readable ? palette["unread-ink"] : palette.mute, SMALL]];
-  if (receiver.lag) words.push([`−${run.lagOf(index, receiver)}`, palette["lag-ink"], SMALL_BOLD]);
+  const words = [[grouped(readable), readable ? palette["unread-ink"] : palette.mute, SMALL]];
+  if (receiver.lag) words.push([`−${grouped(run.lagOf(index, receiver))}`, palette["lag-ink"], SMALL_BOLD]);
   return words;
 }
 
@@ -52,7 +53,8 @@ function drawSharedNames(drawing) {
 
 function drawStandings(drawing, state) {
   for (const band of drawing.bands) {
-    if (band.channel === null) continue;
+    // The band of those that stay has what the one before it has too.
+    if (band.channel === null || band.pins) continue;
     const channel = state.channels[band.channel];
     for (const receiver of channel.receivers) {
       const row = band.rowOf.get(receiver.handle);
@@ -79,9 +81,16 @@ function drawRow({ pen, run, view, frame, bands, palette }) {
   if (view.place <= run.lead) return;
   const row = bands.find(band => band.channel === run.columns.channels[view.place])?.rowOf.get(run.columns.handles[view.place]);
   if (row === undefined) return;
+  const [width, height] = [frame.left || frame.width, frame.left ? row.height : row.lane - row.y];
+  if (row.part?.word) {
+    // Under the colour of the place its word would be too pale.
+    pen.strokeStyle = palette["place-line"];
+    pen.lineWidth = 2;
+    return pen.strokeRect(1, row.y + 1, width - 2, height - 3);
+  }
   pen.globalAlpha = 0.3;
   pen.fillStyle = palette.place;
-  pen.fillRect(0, row.y, frame.left || frame.width, frame.left ? row.height : row.lane - row.y);
+  pen.fillRect(0, row.y, width, height);
   pen.globalAlpha = 1;
 }
 

@@ -18,7 +18,9 @@ export class Folds {
     this.run = run;
     this.shown = shown;
     this.keys = new Set(firstKeys(run));
-    this.first = this.text;
+    this.firstText = this.text;
+    /** @type {number[]} the channels that the account tells of, in its order */
+    this.first = [];
   }
 
   get keys() {
@@ -49,11 +51,14 @@ export class Folds {
     return this.keys.has(key);
   }
 
-  // The channels in their order: those first whose receivers that were ever read by lost most, and then those of others; or by number.
+  // The channels in their order: those first that the account tells of, then those whose receivers that were ever read by lost most, and then those of
+  // others; or by number.
   get channels() {
     const { sums } = this.run.losses;
     const numbers = [...this.run.channels.keys()];
-    return this.isByNumber ? numbers : numbers.sort((a, b) => sums[b].read - sums[a].read || sums[b].lost - sums[a].lost || a - b);
+    const told = new Map(this.first.map((channel, i) => [channel, i - this.first.length]));
+    const rank = channel => told.get(channel) ?? 0;
+    return this.isByNumber ? numbers : numbers.sort((a, b) => rank(a) - rank(b) || sums[b].read - sums[a].read || sums[b].lost - sums[a].lost || a - b);
   }
 
   turn(key) {
@@ -80,7 +85,7 @@ export class Folds {
 
   // Whether the bands are folded as in a run that was just opened.
   get areFirst() {
-    return this.text === this.first;
+    return this.text === this.firstText;
   }
 
   set text(text) {

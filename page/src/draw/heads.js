@@ -12,7 +12,7 @@ const NAME = 22;
 const COUNT = 70;
 
 export function kindOf(channel) {
-  return channel.kind === "broadcast" ? `broadcast, capacity ${channel.capacity}` : "watch";
+  return channel.kind === "broadcast" ? `broadcast, capacity ${grouped(channel.capacity)}` : "watch";
 }
 
 // Where a head stands: above its rows, or on top while they are in sight.
@@ -20,11 +20,12 @@ export function headY({ y, height }, top) {
   return Math.max(y, Math.min(top, y + height - HEAD));
 }
 
-function wordsOf({ run, frame, band }) {
+function wordsOf({ run, view, frame, band }) {
   if (band.key === ACTORS) return [countOf(run.callerCount, "actor"), band.isFolded ? "folded" : "the calls of each"];
   const receivers = run.isBeginning ? [] : [countOf(run.receiverCounts[band.channel], "receiver")];
-  // Without room beside the names, that it is closed is said here.
-  const closed = frame.left === 0 && run.closings.places[band.channel] !== null ? ["closed"] : [];
+  // Without room beside the names, that it is closed is said here, if it is closed in what is in view.
+  const closing = run.closings.places[band.channel];
+  const closed = frame.left === 0 && closing !== null && closing <= view.to ? ["closed"] : [];
   return [run.names.channel(band.channel), [...closed, kindOf(run.channels[band.channel]), ...receivers].join(" · ")];
 }
 

@@ -1,6 +1,6 @@
 // Where the rows of the picture are: for each channel a band with a head and a row for each handle, and last a band with a row for each
-// actor. They are the same wherever the view is, so nothing moves when it changes. If a channel has very many handles of a kind, those that
-// live one after the other share a row.
+// actor. The handles that the account tells of come first. They are the same wherever the view is, so nothing moves when it changes. If a channel has
+// very many handles of a kind, those that live one after the other share a row.
 
 import { ACTORS } from "./folds.js";
 
@@ -40,11 +40,22 @@ function rowsOfKind(lives, kind) {
   return those.length > MANY_HANDLES ? sharedRows(those, kind) : those.map(life => ({ kind, lives: [life] }));
 }
 
-// Returns the rows of each channel, the same for every view. A handle that a window's lead alone has is none.
-export function rowsOf(run) {
+// The rows of the handles that take part in what the account tells: those that did something first, and then in the order of the facts.
+function rowsOfParts(lives, parts) {
+  const order = ({ kind, lives: [life], part }) => [KINDS.indexOf(kind), part.rank, life.from, life.handle];
+  const rows = lives.filter(life => parts.has(life.handle)).map(life => ({ kind: life.kind, lives: [life], part: parts.get(life.handle) }));
+  return rows.sort((a, b) => order(a).reduce((sum, it, i) => sum || it - order(b)[i], 0));
+}
+
+const NO_PARTS = new Map();
+
+// Returns the rows of each channel, the same for every view. A handle that a window's lead alone has is none. `parts` has what some take part in.
+export function rowsOf(run, parts = NO_PARTS) {
   return run.channels.map(({ kind }, channel) => {
+    const own = parts.get(channel) ?? NO_PARTS;
     const lives = run.lives[channel].filter(life => !run.isOfLead(life));
-    return [...(kind === "watch" ? [{ kind: "value", lives: [] }] : []), ...KINDS.flatMap(it => rowsOfKind(lives, it))];
+    const others = lives.filter(life => !own.has(life.handle));
+    return [...(kind === "watch" ? [{ kind: "value", lives: [] }] : []), ...rowsOfParts(lives, own), ...KINDS.flatMap(it => rowsOfKind(others, it))];
   });
 }
 
@@ -91,12 +102,39 @@ export function layOut(run, rows, folds, isNarrow) {
   return { bands, height: y, isNarrow };
 }
 
-// Returns the bands in sight between two heights, each with its rows in sight, by their handles too.
+function byHandle(rows) {
+  return new Map(rows.flatMap(row => row.lives.map(life => [life.handle, row])));
+}
+
+// The share of what is in sight that rows may have that stay there.
+const MOST_PINNED = 0.45;
+
+// How high the rows of a band are that stay below its head while others are scrolled: those that the account tells of, unless they are too many.
+export function pinnedHeight({ rows }, height) {
+  const sum = rows.filter(({ part }) => part).reduce((all, row) => all + row.height, 0);
+  return sum <= MOST_PINNED * height ? sum : 0;
+}
+
+// The rows in sight of a band that is scrolled, as two bands: the one on top has the rows that stay, and the other those that are whole below them.
+function scrolledBand(band, top, bottom) {
+  const height = pinnedHeight(band, bottom - top);
+  const y = Math.min(top, band.y + band.height - HEAD - height);
+  const shift = y - band.y;
+  const pinned = band.rows.filter(({ part }) => part).map(row => ({ ...row, y: row.y + shift, lane: row.lane + shift, base: row.base + shift }));
+  const [first] = pinned;
+  const end = first.y + height;
+  const rows = band.rows.filter(row => !row.part && row.y >= end && row.y < bottom);
+  return [{ ...band, rows, rowOf: byHandle([...rows, ...pinned]) }, { ...band, rows: pinned, rowOf: byHandle(pinned), pins: { y: first.y, height } }];
+}
+
+// Returns the bands in sight between two heights, each with its rows in sight, by their handles too. A band with `pins` has rows that stay there over those
+// of the one before it.
 export function inSight({ bands }, top, bottom) {
   const isSeen = it => it.y + it.height > top && it.y < bottom;
-  return bands.filter(isSeen).map(band => {
+  return bands.filter(isSeen).flatMap(band => {
+    if (band.y < top && pinnedHeight(band, bottom - top) > 0) return scrolledBand(band, top, bottom);
     const rows = band.rows.filter(isSeen);
-    return { ...band, rows, rowOf: new Map(rows.flatMap(row => row.lives.map(life => [life.handle, row]))) };
+    return [{ ...band, rows, rowOf: byHandle(rows) }];
   });
 }
 

@@ -1,6 +1,7 @@
 // The legend: what colours and shapes mean.
 
-import { element, outside } from "../base/dom.js";
+import { byId, element, outside } from "../base/dom.js";
+import { MARK_NAMES } from "../run/marks.js";
 import { cleared, hatched } from "./canvas.js";
 import { drawStretch } from "./loss_band.js";
 import { SHAPES } from "./shapes.js";
@@ -37,7 +38,7 @@ export function legendItems(run, palette) {
   const marks = [
     [colourMark(palette.unread), "to read"], [colourMark(palette.lag), "lost: overwritten before it was read"],
     [pen => drawStretch(pen, palette, { x: 0, end: SIZE }, 2, SIZE - 4, false), "lost, and nobody was told"], [colourMark(palette.unseen), "value not seen"],
-    [pen => hatched(pen, palette, 0, 1, SIZE, SIZE - 2), "channel closed"],
+    [pen => hatched(pen, palette, 0, 1, SIZE, SIZE - 2), CLOSED],
     ...Object.entries(SHAPE_MEANINGS).map(([shape, meaning]) => [shapeMark(palette, shape), meaning]),
   ];
   return [...actors, ...marks.map(([draw, text]) => ({ text, actor: null, width: SIZE, draw }))];
@@ -48,6 +49,45 @@ function swatch(draw) {
   canvas.style.width = `${SIZE}px`;
   draw(cleared(canvas, SIZE, SIZE));
   return canvas;
+}
+
+// The marks that the pictures of broadcasts and of watches have most of, and those of calls, if the run has such ones. What has no room is left out from
+// the end on.
+const MOST_SEEN = { broadcast: ["to read", "lost: overwritten before it was read"], watch: ["value not seen"] };
+const OF_CALLS = ["sent", "received", "lagged", "dropped"];
+const CLOSED = "channel closed";
+const LAST = "asked";
+const KEY = "yovanelum legend";
+
+function isKept() {
+  try {
+    return localStorage.getItem(KEY) !== null;
+  } catch {
+    return false;
+  }
+}
+
+// Shows the marks that the run has most of in one line below the picture, until it was closed in this browser once.
+export function showKeyLine(run, palette) {
+  const line = byId("key-line");
+  line.hidden = isKept();
+  if (line.hidden) return;
+  const has = mark => run.columns.marks.includes(MARK_NAMES.indexOf(mark), 1);
+  const meanings = marks => marks.filter(has).map(mark => SHAPE_MEANINGS[mark]);
+  const wanted = [...new Set(run.channels.flatMap(({ kind }) => MOST_SEEN[kind])), ...meanings(OF_CALLS), CLOSED, ...meanings([LAST])];
+  const all = legendItems(run, palette).filter(({ actor }) => actor === null);
+  const items = wanted.map(text => all.find(it => it.text === text));
+  line.querySelector("ul").replaceChildren(...items.map(({ text, draw }) => element("li", {}, swatch(draw), " ", text)));
+}
+
+// Closes that line for good.
+export function closeKeyLine() {
+  byId("key-line").hidden = true;
+  try {
+    localStorage.setItem(KEY, "closed");
+  } catch {
+    return;
+  }
 }
 
 // The legend as elements.

@@ -7,7 +7,7 @@ import { countUpTo } from "../run/values.js";
 import { slanted } from "./canvas.js";
 
 const LEAST = 2;
-const LETTER = 6.1;
+const LETTER = 6.7;
 const PAD = 4;
 const TICKS_FROM = 4;
 const COUNT_ROOM = 16;

@@ -16,6 +16,9 @@ const MIDDLE = 10;
 const GAP = 4;
 const BEFORE = "before the window";
 
+// What stands beside the names of receivers, by the kind of their channel.
+const STANDINGS = { broadcast: "overwritten, to read", watch: "version seen, of the newest" };
+
 // How many places are between two numbers on the axis.
 function axisStep(column) {
   let step = 1;
@@ -53,8 +56,9 @@ function drawBeforeWord({ pen, frame }, label) {
   return [frame.left, end];
 }
 
+// `kind` is that of the channel whose rows are on top, or null.
 export function drawAxis(drawing) {
-  const { pen, run, view, frame, palette } = drawing;
+  const { pen, run, view, frame, palette, kind } = drawing;
   const taken = [drawPlace(drawing)];
   const step = axisStep(frame.column);
   pen.font = SMALL;
@@ -69,9 +73,9 @@ export function drawAxis(drawing) {
     const middle = Math.max(frame.left + half, Math.min(x, frame.width - half - 2));
     if (taken.every(([left, right]) => middle + half + GAP < left || middle - half - GAP > right)) pen.fillText(text, middle, MIDDLE);
   }
-  if (frame.left === 0) return;
+  if (frame.left === 0 || kind === null) return;
   pen.textAlign = "right";
-  pen.fillText("overwritten, to read", frame.left - GAP - 4, MIDDLE);
+  pen.fillText(STANDINGS[kind], frame.left - GAP - 4, MIDDLE);
 }
 
 const DOT = 4.5;
@@ -128,7 +132,7 @@ function drawWaits(drawing) {
 
 // A wait is a line from where it began to the end of the run, with a sign there.
 /** @param {Drawing} drawing */
-function drawWait({ pen, run, view, frame, bands, palette }, { actor, channel, word, handle, since, isTried }) {
+function drawWait({ pen, run, view, frame, bands, palette }, { actor, channel, word, handle, since, said }) {
   const column = run.lastPlace + 1;
   const band = bands.find(it => it.channel === channel);
   if (band === undefined || view.to < since) return;
@@ -141,7 +145,7 @@ function drawWait({ pen, run, view, frame, bands, palette }, { actor, channel, w
   line(pen, Math.max(frame.left, frame.middle(since)), foot - 7, Math.min(frame.right, x), foot - 7);
   pen.setLineDash([]);
   if (view.to < column) return;
-  flag(pen, `${word} ${isTried ? "would wait" : "waits"}`, {
+  flag(pen, `${word} ${said}`, {
     x, y: foot - 15, colour: palette.actor(actor), ink: palette.card, least: frame.left, most: frame.right,
   });
 }
@@ -161,6 +165,23 @@ function drawLead({ pen, run, view, frame, top, bottom, palette }) {
   drawBefore(pen, palette, x, top, frame.x(Math.min(run.lead, view.to) + 1) - x, bottom - top);
 }
 
+// Draws the rows that stay in sight over those that are scrolled under them.
+/** @param {Drawing} drawing */
+function drawPinned(drawing) {
+  const { pen, frame, band, palette } = drawing;
+  const { y, height } = band.pins;
+  pen.save();
+  pen.beginPath();
+  pen.rect(0, y, frame.width, height);
+  pen.clip();
+  pen.fillStyle = palette.card;
+  pen.fillRect(0, y, frame.width, height);
+  drawBand(drawing);
+  pen.restore();
+  pen.fillStyle = palette.mute;
+  pen.fillRect(0, y + height - 1, frame.width, 1);
+}
+
 // `drawing` has the pen, the run, the view, its frame, the bands in sight, how far the rows are scrolled, the places whose states are drawn,
 // the actors' dots, the folds and the palette. The pen's heights are those of the layout.
 export function drawPicture(drawing) {
@@ -169,12 +190,14 @@ export function drawPicture(drawing) {
     if (band.key === ACTORS) {
       drawActorRows(part);
       (drawing.frame.isNear ? drawActorCalls : drawActorsFar)(part);
+    } else if (band.pins) {
+      drawPinned(part);
     } else {
       drawBand(part);
     }
   }
   drawWaits(drawing);
   drawLead(drawing);
-  for (const band of drawing.bands) drawHead({ ...drawing, band });
+  for (const band of drawing.bands.filter(({ pins }) => !pins)) drawHead({ ...drawing, band });
   if (drawing.bands.length === 0) drawNothing(drawing);
 }

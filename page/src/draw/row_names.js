@@ -1,6 +1,7 @@
 // The name of a row: whose handle it is, and its kind and number. Whose it is, is cut first, and the number never.
 
 import { element, outside } from "../base/dom.js";
+import { SMALL, SMALL_BOLD } from "../base/palette.js";
 import { isolated } from "../base/text.js";
 import { fitted } from "./canvas.js";
 
@@ -8,22 +9,50 @@ const LEFT = 6;
 const RIGHT = 8;
 const BADGE_ROOM = 34;
 
-// How wide what a receiver has at the place is at the right of its name: of a broadcast, and of a watch with versions of one digit, and how
-// much wider that is with each digit more.
+// How wide what a receiver has at the place is at the right of its name: of a broadcast, of a watch that has changed once at most, so that no change
+// is missed, and of another one with versions of one digit, and how much wider that is with each digit more.
 const TO_READ = 62;
+const FIRST_VERSIONS = 46;
 const VERSIONS = 98;
 const DIGIT = 20;
 
+// How wide a letter of a row's word is, and how far the word and the name are from the middle where one is below the other.
+const LETTER = 6.6;
+const APART = 8;
+
 function standingWidth(run, channel) {
   if (run.channels[channel].kind === "broadcast" || run.isWindow(channel)) return TO_READ;
-  return VERSIONS + DIGIT * (String(run.ending.channels[channel].version).length - 1);
+  const { version } = run.ending.channels[channel];
+  return version < 2 ? FIRST_VERSIONS : VERSIONS + DIGIT * (String(version).length - 1);
 }
 
 // Returns where a row's name is, and its room: left of the row, or above it on a narrow screen.
 /** @param {Drawing} drawing */
 export function nameRoom({ run, frame, band }, row) {
   const standing = row.kind === "receiver" ? standingWidth(run, band.channel) : 0;
-  return { x: LEFT, y: frame.left ? row.y + row.height / 2 : row.y + 8, room: (frame.left || frame.width) - LEFT - RIGHT - standing };
+  const isAbove = isWordBelow(frame, row);
+  const word = !row.part?.word || isAbove ? 0 : row.part.word.length * LETTER + RIGHT;
+  const middle = frame.left ? row.y + row.height / 2 - (isAbove ? APART : 0) : row.y + 8;
+  return { x: LEFT, y: middle, room: (frame.left || frame.width) - LEFT - RIGHT - standing - word };
+}
+
+// Whether the word of a row is below its name, and not right of it.
+function isWordBelow(frame, row) {
+  return frame.left > 0 && row.kind === "receiver" && Boolean(row.part?.word);
+}
+
+// What the row's handle has to do with what the account tells.
+/** @param {Drawing} drawing */
+export function drawRowWord(drawing, row) {
+  const { pen, frame, palette } = drawing;
+  const { x, y, room } = nameRoom(drawing, row);
+  const isBelow = isWordBelow(frame, row);
+  pen.font = SMALL_BOLD;
+  pen.fillStyle = palette["lag-ink"];
+  pen.textAlign = isBelow ? "left" : "right";
+  pen.fillText(row.part.word, isBelow ? x + BADGE_ROOM : x + room + row.part.word.length * LETTER + RIGHT, isBelow ? y + 2 * APART : y);
+  pen.font = SMALL;
+  pen.fillStyle = palette.ink;
 }
 
 // Draws a name that has no badge.

@@ -11,8 +11,9 @@ import { Frame, gutterOf, stripGutterOf } from "./frame.js";
 import { ActorDots, Overview } from "./from_far.js";
 import { headY } from "./heads.js";
 import { Lanes } from "./lanes.js";
-import { HEAD, inSight, layOut, rowOfHandle, rowsOf } from "./layout.js";
+import { HEAD, inSight, layOut, pinnedHeight, rowOfHandle, rowsOf } from "./layout.js";
 import { drawDiffering } from "./other_picture.js";
+import { partsOf } from "./parts.js";
 import { AXIS_HEIGHT, drawAxis, drawPicture } from "./picture.js";
 import { drawStrip, drawStripCursor, stripCap, stripHeight, stripRow } from "./strip.js";
 
@@ -30,6 +31,8 @@ const COUNTS = 58;
 const SHARE = 0.2;
 const LOW_SHARE = 0.14;
 
+const PAPER = matchMedia("print");
+
 export class Screen {
   /** @param {import("../run/shown.js").Shown} shown */
   constructor(run, view, shown) {
@@ -44,7 +47,7 @@ export class Screen {
     this.loss = null;
     this.folds = new Folds(run, shown);
     this.sight = { top: 0, bottom: 0 };
-    this.rows = rowsOf(run);
+    this.account = undefined;
     this.resize();
   }
 
@@ -66,7 +69,7 @@ export class Screen {
     const { from, to, stride } = this.view;
     if (stride === 1 || this.inView === this.whole) return [];
     const bands = inSight(this.layout, this.sight.top, this.sight.bottom).filter(({ channel, rows }) => channel !== null && rows.length);
-    return bands.map(({ channel }) => channel).filter(channel => !this.levels.has(from, to, stride, channel));
+    return [...new Set(bands.map(({ channel }) => channel))].filter(channel => !this.levels.has(from, to, stride, channel));
   }
 
   async loadLevels() {
@@ -77,6 +80,7 @@ export class Screen {
   // Called after a change of the window's size, of names, or between light and dark.
   resize() {
     this.palette = readPalette();
+    this.standRows();
     // The pane has no width while another part of a narrow page is shown. It will have that of the window.
     this.width = byId("pane").clientWidth || (isTabbed() ? innerWidth : this.width) || 0;
     const cap = stripCap(this.run, this.isNarrow || byId("losses").classList.contains("is-open") ? LOW_SHARE : SHARE);
@@ -88,7 +92,19 @@ export class Screen {
     this.drawStrip();
     this.lanes = new Lanes(new Tasks(this.run), this.isNarrow);
     this.lanes.stand();
+    // What is drawn below the rows belongs to the half of the window that the picture has.
+    byId("left").style.setProperty("--below", this.shown.other === null ? `${this.lanes.height}px` : "28vh");
     this.arrange();
+  }
+
+  // Makes the rows, which follow the account that the run's names have.
+  standRows() {
+    const { account } = this.run.names;
+    if (this.account === account) return;
+    this.account = account;
+    const parts = partsOf(this.run);
+    this.folds.first = [...parts.keys()];
+    this.rows = rowsOf(this.run, parts);
   }
 
   // Called after a change of what is folded or filtered.
@@ -115,6 +131,8 @@ export class Screen {
   // Reads how far the pane is scrolled, and how high it is, and returns whether other rows are in sight. That is slow while the page is being
   // changed, so it is read only after they have changed.
   measure() {
+    // On paper the pane is as high as what is drawn, which stays.
+    if (PAPER.matches) return false;
     const { scrollTop, clientHeight } = byId("pane");
     const { top, bottom } = this.sight;
     this.sight = { top: scrollTop, bottom: scrollTop + clientHeight };
@@ -152,6 +170,7 @@ export class Screen {
     const bands = inSight(this.layout, top, bottom);
     this.picture = { run, view, frame, bands, top, bottom, palette, folds, overview: this.inView, dots: this.dots };
     this.places = places;
+    this.shapePaper();
     this.drawRows(this.pen("picture", bottom - top));
     this.drawn = wanted;
   }
@@ -159,7 +178,7 @@ export class Screen {
   drawPlace() {
     const { run, view, palette, frame } = this;
     this.drawStripPlace(this.pen("strip-cursor", this.strip.height));
-    drawAxis({ run, view, palette, frame, pen: this.pen("axis", AXIS_HEIGHT) });
+    drawAxis({ run, view, palette, frame, kind: this.kindOnTop, pen: this.pen("axis", AXIS_HEIGHT) });
     if (this.picture) this.drawRowsPlace(this.pen("cursor", this.picture.bottom - this.picture.top));
     this.lanes.draw({ view, palette, frame });
   }
@@ -179,6 +198,25 @@ export class Screen {
     if (this.shown.other) drawDiffering({ ...this.picture, pen }, this.shown.other.compared.differing);
   }
 
+  // How high the rows in sight are, without the room below the last one.
+  get rowsInSight() {
+    return Math.min(this.sight.bottom, this.layout.height) - this.sight.top;
+  }
+
+  // On paper the picture has no room below its last row. A style that stays the same isn't set again.
+  shapePaper() {
+    const shape = `${this.width} / ${this.rowsInSight}`;
+    if (this.shape === shape) return;
+    this.shape = shape;
+    byId("picture-box").style.setProperty("--shape", shape);
+  }
+
+  // Of which kind the channel is whose rows are on top, or null.
+  get kindOnTop() {
+    const band = this.layout.bands.find(({ y, height }) => y + height > this.sight.top);
+    return band === undefined || band.channel === null ? null : this.run.channels[band.channel].kind;
+  }
+
   // The drawings from top to bottom, each with its height and how a pen draws it.
   layers() {
     const { run, view, palette, frame, strip, picture } = this;
@@ -190,11 +228,20 @@ export class Screen {
     });
     return [
       { height: strip.height, draw: both(pen => this.drawStripOn(pen), pen => this.drawStripPlace(pen)) },
-      { height: AXIS_HEIGHT, draw: pen => drawAxis({ run, view, palette, frame, pen }) },
-      ...(picture ? [{ height: picture.bottom - picture.top, draw: both(pen => this.drawRows(pen), pen => this.drawRowsPlace(pen)) }] : []),
+      { height: AXIS_HEIGHT, draw: pen => drawAxis({ run, view, palette, frame, kind: this.kindOnTop, pen }) },
+      ...(picture ? [{ height: this.rowsInSight, draw: both(pen => this.drawRows(pen), pen => this.drawRowsPlace(pen)) }] : []),
       ...(this.lanes.height > 0 ? [{ height: this.lanes.height, draw: pen => this.lanes.drawOn({ pen, view, palette, frame }) }] : []),
       ...(other ? [other.layer()] : []),
     ];
+  }
+
+  // Whether a row, or the whole band, is in sight below the head and the rows that stay there, of which it may be one.
+  isInSight(row, band) {
+    const { top, bottom } = this.sight;
+    const pinned = row === band ? 0 : pinnedHeight(band, bottom - top);
+    if (row.part && pinned > 0 && band.y < top) return band.y + band.height > top + HEAD + pinned;
+    const above = row === band ? 0 : HEAD + (row.part ? 0 : pinned);
+    return row.y >= top + above && row.y + Math.min(row.height, AROUND) <= bottom;
   }
 
   // Scrolls the row of a call in, with the head of its band if that fits, and its channel's row of the strip.
@@ -202,7 +249,7 @@ export class Screen {
     const row = rowOfHandle(this.layout, channel, handle);
     const { top, bottom } = this.sight;
     const band = row && this.layout.bands.find(it => it.channel === channel);
-    if (row && (row.y < top + (row === band ? 0 : HEAD) || row.y + Math.min(row.height, AROUND) > bottom)) {
+    if (row && !this.isInSight(row, band)) {
       const isNear = row.y + row.height - band.y + AROUND < bottom - top;
       this.scrollTo(isNear ? band.y : row.y + row.height / 2 - (bottom - top) / 2);
     }

@@ -49,10 +49,26 @@ function arrow(pen, a, b) {
   pen.fill();
 }
 
+// Where a label is, and how far it may be moved so that it lies over no other.
+const MOVES = [0, -LABEL, LABEL, -2 * LABEL, 2 * LABEL, -3 * LABEL, 3 * LABEL];
+
+function isOver(a, b) {
+  return Math.abs(a.y - b.y) < LABEL && a.left < b.left + b.width + 2 * PAD && b.left < a.left + a.width + 2 * PAD;
+}
+
+// The labels, each at the first height near its step where it lies over none before it.
 /** @param {Drawing} drawing */
-function label({ pen, frame, palette }, { x, y, word }) {
-  const width = pen.measureText(word).width;
-  const left = Math.max(frame.left, Math.min(x - width / 2, frame.right - width));
+export function placedLabels({ pen, frame }, labels) {
+  return labels.reduce((placed, { x, y, word }) => {
+    const width = pen.measureText(word).width;
+    const left = Math.max(frame.left, Math.min(x - width / 2, frame.right - width));
+    const free = MOVES.find(move => !placed.some(it => isOver(it, { left, width, y: y + move })));
+    return [...placed, { left, width, y: y + (free ?? 0), word }];
+  }, []);
+}
+
+/** @param {Drawing} drawing */
+function label({ pen, palette }, { left, width, y, word }) {
   pen.fillStyle = palette.card;
   pen.fillRect(left - PAD, y - LABEL / 2, width + 2 * PAD, LABEL);
   pen.fillStyle = palette["lag-ink"];
@@ -76,5 +92,5 @@ export function drawStory(drawing, loss) {
   steps.slice(1).forEach((step, i) => arrow(pen, steps[i], step));
   pen.font = SMALL_BOLD;
   pen.textAlign = "left";
-  steps.forEach((step, i) => label(drawing, { ...step, y: step.row.base - (i % 2 ? 1 : LABEL) }));
+  for (const it of placedLabels(drawing, steps.map((step, i) => ({ ...step, y: step.row.base - (i % 2 ? 1 : LABEL) })))) label(drawing, it);
 }

@@ -15,7 +15,7 @@ const LEAST_BEFORE = 4;
 
 // At the right of the names: how much was lost, and a sign where some of it was never told.
 const COUNT = 78;
-const DIGIT = 6.1;
+const DIGIT = 6.7;
 const MOST_DIGITS = 7;
 const SIGN = { right: 10, width: 12, height: 8 };
 

@@ -1,10 +1,13 @@
-// The answer: the account of the run, in the order and in the words of the report. Each step that it tells of is a link that walks there, and each
-// place in the sources one into the editor. Beside that are the changes that a receiver of a watch never looked at, and what the channel of a call that
-// waits has at the end.
+// The answer: the account of the run, in the order and in the words of the report, below how the test failed. Each fact has a heading, each step that it
+// tells of is a link that walks there, and each place in the sources one into the editor. Beside that are the changes that a receiver of a watch never
+// looked at, and what the channel of a call that waits has at the end.
 
 import { byId, element } from "../base/dom.js";
 import { countOf, grouped } from "../base/numbers.js";
+import { isAlone } from "../base/tabs.js";
 import { visible } from "../base/text.js";
+import { waitParts, withSource, worded } from "./account_text.js";
+import { showFailure } from "./failure.js";
 import { sourceLink } from "./source_links.js";
 import { unlookedBy } from "./unlooked.js";
 import { sentWords, valueWords } from "./value_words.js";
@@ -16,30 +19,27 @@ const MOST_TEXT = 300;
 // How many changes are listed that a receiver never looked at.
 const MOST_CHANGES = 3;
 
+// How many facts are unfolded at first, and of how many others the headings are shown.
+const MOST_UNFOLDED = 3;
+const MOST_HEADINGS = 8;
+
+// How high a line is, and how much of the upper half of a window has other things than facts.
+const LINE = 18;
+const AROUND = 270;
+
 // What the line of a call begins with. Accounts of earlier versions say `step 3`.
 const STEP = /^ {2}((?:call|step) \d+|before the window|a panic|the panic|the error|the end|the start)/;
 
-// A text with the place in the sources that stands in it as a link, after what is before it in its line.
-function withSource(run, text, place, before) {
-  if (!place) return [visible(text)];
-  const shown = visible(`${place[0]}:${place[1]}`);
-  const at = text.indexOf(before + shown);
-  if (at < 0) return [visible(text)];
-  const start = at + before.length;
-  return [visible(text.slice(0, start)), sourceLink(run, place, shown), visible(text.slice(start + shown.length))];
-}
-
 function toPlace(place, text, fact) {
   const whose = fact.kind === "loss" ? { "data-receiver": `${fact.channel} ${fact.receiver}` } : {};
-  return element("button", { type: "button", "data-place": place, title: "go there", ...whose }, text);
+  return element("button", { type: "button", "data-place": place, title: "go there", ...whose }, ...text);
 }
 
 // A line of a fact, with a link where it tells of a step.
 function lineOf(run, fact, text, index) {
   const step = fact.places.find(it => it.line === index);
   const name = step && STEP.exec(text)?.[1];
-  const parts = name ? ["  ", toPlace(step.place, name, fact), ...withSource(run, text.slice(2 + name.length), step.location, "  ")]
-    : [index === 0 ? element("b", {}, visible(text)) : visible(text)];
+  const parts = name ? ["  ", toPlace(step.place, worded(name), fact), ...withSource(run, text.slice(2 + name.length), step.location, "  ")] : worded(text);
   return element("bdi", { class: name ? "line step" : "line" }, ...parts);
 }
 
@@ -52,28 +52,41 @@ function unlookedLine(run, { channel, receiver, changes }) {
   return [element("bdi", { class: "then" }, "  not looked at: ", ...listed, more > 0 ? ` and ${grouped(more)} more` : "")];
 }
 
-function factPart(run, fact) {
+// A fact as a heading, with its lines below it, which fold.
+function factPart(run, fact, isOpen) {
+  const [head, ...lines] = fact.text;
   const more = fact.kind === "unlearned" && !run.isBeginning ? unlookedLine(run, fact) : [];
-  return element("section", { class: "fact", "data-kind": fact.kind }, ...fact.text.map((text, index) => lineOf(run, fact, text, index)), ...more);
+  return element("details", { class: "fact", "data-kind": fact.kind, ...(isOpen ? { open: "" } : {}) },
+    element("summary", {}, element("h3", { class: "line" }, ...worded(head))), ...lines.map((text, index) => lineOf(run, fact, text, index + 1)), ...more);
 }
 
 function paragraph(...children) {
   return element("p", {}, ...children);
 }
 
-// The facts that the report tells in full, and behind its line that counts them the others.
-function factParts(run, { facts, rest }) {
-  const [told, others] = [facts.slice(0, rest.after), facts.slice(rest.after)].map(some => some.map(it => factPart(run, it)));
-  if (rest.text === null) return told;
-  return [...told, element("details", { class: "rest" }, element("summary", {}, rest.text), ...others)];
+// How many lines of facts there is room for above the picture, which has half of the window: all of them where each part is alone under a tab.
+function roomForLines() {
+  return isAlone() ? Infinity : Math.floor((innerHeight / 2 - AROUND) / LINE);
 }
 
-// A call that waits. What it waits in leads to where it began.
-function waitLine(run, { text, since, location }) {
-  const began = /^(.*? since (?:(?:call|step) \d+|the start|before the window))(.*)$/s.exec(text);
-  const [lead, rest] = began ? began.slice(1) : [text, ""];
-  const go = element("button", { type: "button", "data-place": since, title: "go to where it began to wait" }, visible(lead));
-  return element("bdi", { class: "line" }, "  ", go, ...withSource(run, rest, location, ", "));
+// The facts that the report tells in full, and behind its line that counts them the others, by their headings. As many are unfolded as there is room
+// for, and always the first.
+function factParts(run, { facts, rest }) {
+  let room = roomForLines();
+  const told = facts.slice(0, rest.after).map((fact, index) => {
+    const isOpen = index === 0 || (index < MOST_UNFOLDED && fact.text.length <= room);
+    room -= isOpen ? fact.text.length : 1;
+    return factPart(run, fact, isOpen);
+  });
+  if (rest.text === null) return told;
+  const others = facts.slice(rest.after);
+  const isOpen = others.length > 0 && others.length <= Math.min(room, MOST_HEADINGS);
+  const parts = [element("summary", {}, ...worded(rest.text)), ...others.map(it => factPart(run, it, false))];
+  return [...told, element("details", { class: "rest", ...(isOpen ? { open: "" } : {}) }, ...parts)];
+}
+
+function waitLine(run, wait) {
+  return element("bdi", { class: "line" }, "  ", ...waitParts(run, wait));
 }
 
 // What the channel of a call that waits has at the end, so that one sees what it waits for in vain: the value of a watch, or whether a receiver has
@@ -85,37 +98,35 @@ function atTheEnd(run, { channel, handle }) {
   const has = state.kind === "watch" ? ["has ", valueWords(run, channel, state.value)]
     : [receiver === undefined ? `has ${countOf(state.receivers.length, "receiver")}` : `has ${receiver.unread === 0 ? "nothing" : grouped(receiver.unread - receiver.lag)} to read`];
   const senders = state.senders.length === 0 ? "no sender" : countOf(state.senders.length, "sender");
-  return [element("bdi", { class: "then" }, `    \`${visible(run.names.channel(channel))}\` `, ...has, ` and ${senders} at the end`)];
+  return [element("bdi", { class: "then" }, "    ", element("bdi", { class: "name" }, visible(run.names.channel(channel))), " ", ...has, ` and ${senders} at the end`)];
 }
 
 function waitsPart(run, { waiting }) {
   const waits = waiting.flatMap(it => [waitLine(run, it), ...atTheEnd(run, it)]);
-  return waits.length > 0 ? [element("section", { class: "waits" }, element("b", {}, "still waiting:"), ...waits)] : [];
+  return waits.length > 0 ? [element("section", { class: "waits" }, element("h3", {}, "still waiting:"), ...waits)] : [];
 }
 
-// How the test ended, as the names say: its panics, or the error that it returned. Each leads to the last call before it.
+// How the test ended besides, as the names say: its other panics, or the error that it returned. Each leads to the last call before it.
 function endsPart(run) {
   const { panics, returned } = run.names.ending;
-  const ends = [...panics.slice(0, MOST_ENDS).map(it => ["panic", it]), ...(returned === null ? [] : [["error", returned]])];
+  const { failed } = run.account;
+  const isToldAbove = ({ location, text }) => failed !== null && text === failed.message && String(run.names.place(location) ?? null) === String(failed.location);
+  const others = panics.slice(0, MOST_ENDS).map(it => ["panic", it]);
+  const ends = [...others, ...(returned === null ? [] : [["error", returned]])].filter(([, it]) => !isToldAbove(it));
   const lines = ends.map(([word, { since, actor = null, location, text = "" }]) => {
     const place = run.placeOf(since);
-    const who = actor === null ? [] : [" of ", visible(run.names.shortActor(actor))];
+    const who = actor === null ? [] : [" of ", ...worded(run.names.shortActor(actor))];
     const source = run.names.place(location);
-    const said = typeof text !== "string" || text === "" ? [] : [": ", visible(text.slice(0, MOST_TEXT))];
-    return element("bdi", { class: "line" }, "  ", toPlace(place, place > run.lead ? `${word} after call ${place}` : `${word} at the ${place === 0 ? "start" : "window's beginning"}`, {}), ...who,
-      ...(source ? [" at ", sourceLink(run, source)] : []), ...said);
+    const said = typeof text !== "string" || text === "" ? [] : [": ", ...worded(text.slice(0, MOST_TEXT))];
+    const at = place > run.lead ? `${word} after call ${grouped(place)}` : `${word} at the ${place === 0 ? "start" : "window's beginning"}`;
+    const where = source ? [" at ", sourceLink(run, source)] : [];
+    return element("bdi", { class: "line" }, "  ", toPlace(place, [at], {}), ...who, ...where, ...said);
   });
-  return lines.length > 0 ? [element("section", { class: "ends" }, element("b", {}, "how it ended:"), ...lines)] : [];
-}
-
-// How the test failed, as the report's line has it.
-function failedPart(run, { failed }) {
-  if (failed === null) return [];
-  return [element("bdi", { class: "line failed" }, toPlace(failed.place, "failed:", {}), ...withSource(run, ` ${failed.text}`, failed.location, " at "))];
+  return lines.length > 0 ? [element("section", { class: "ends" }, element("h3", {}, "how it ended:"), ...lines)] : [];
 }
 
 function tasksPart({ tasks }) {
-  return tasks.length > 0 ? [element("section", { class: "tasks" }, ...tasks.map(({ text }) => element("bdi", { class: "line" }, visible(`waits: ${text}`))))] : [];
+  return tasks.length > 0 ? [element("section", { class: "tasks" }, ...tasks.map(({ text }) => element("bdi", { class: "line" }, ...worded(`waits: ${text}`))))] : [];
 }
 
 function summaryOf({ facts, unknown, waiting }) {
@@ -125,11 +136,10 @@ function summaryOf({ facts, unknown, waiting }) {
 
 function accountParts(run, account) {
   return [
-    ...(account.window ? [paragraph(visible(account.window.text))] : []),
-    ...(account.unknown.length > 0 ? [paragraph(element("b", {}, "not all is known: "), visible(account.unknown.join("; ")))] : []),
-    ...failedPart(run, account),
+    ...(account.window ? [paragraph(...worded(account.window.text))] : []),
+    ...(account.unknown.length > 0 ? [paragraph(element("b", {}, "not all is known: "), ...worded(account.unknown.join("; ")))] : []),
     ...factParts(run, account),
-    ...(account.nothing === null ? [] : [paragraph(visible(account.nothing))]),
+    ...(account.nothing === null ? [] : [paragraph(...worded(account.nothing))]),
     ...waitsPart(run, account),
     ...tasksPart(account),
     ...endsPart(run),
@@ -139,6 +149,7 @@ function accountParts(run, account) {
 // Shows the account. Where it is still to be made it has its room, so that nothing moves when it comes.
 export function showAccount(run) {
   const { account } = run;
+  showFailure(run);
   byId("answer").classList.toggle("made", run.names.account === null);
   byId("answer-line").replaceChildren(...(account === null ? [`What was found: ${run.isBeginning ? "it is said when all calls are read" : "it is being counted"}`] : summaryOf(account)));
   byId("answer-box").replaceChildren(...(account === null ? [] : accountParts(run, account)));

@@ -3,6 +3,7 @@
 import { byId, element } from "../base/dom.js";
 import { isTabbed } from "../base/tabs.js";
 import { visible } from "../base/text.js";
+import { worded } from "./account_text.js";
 
 const CALL = /^  (here|there) +call (\d+)/;
 
@@ -24,7 +25,7 @@ export function showDifference(compared, name) {
   // Both pictures need the room of the answer.
   if (!isTabbed()) byId("answer").removeAttribute("open");
   const [head, ...lines] = compared.lines;
-  byId("against-line").replaceChildren(visible(head));
+  byId("against-line").replaceChildren(...worded(head));
   byId("against-box").replaceChildren(...lines.map(text => callLine(text, compared)));
   byId("other-line").replaceChildren(`${compared.run}: `, element("bdi", {}, visible(name)));
 }

@@ -1,6 +1,6 @@
 // The loss at the place: which values were lost, since which send, by whom, and how it ended.
 
-import { element, outside } from "../base/dom.js";
+import { breakable, element, outside } from "../base/dom.js";
 import { countOf, grouped } from "../base/numbers.js";
 import { rowName } from "../draw/row_names.js";
 import { lastReceived } from "../run/losses.js";
@@ -13,12 +13,14 @@ const MOST_NAMED = 4;
 
 const WORDS = { told: "told", dropped: "dropped untold", open: "not told by the end" };
 
-function word(run, loss) {
+// What became of a loss by a place.
+function word(run, loss, place) {
+  if (loss.end !== "open" && place < loss.to) return "not told yet";
   return run.losses.isUnwound(loss) ? "not told when the test failed" : WORDS[loss.end];
 }
 
 function who(run, actor) {
-  return [run.actors.badge(actor), " ", outside(run.actors.names[actor])];
+  return [run.actors.badge(actor), " ", breakable(run.actors.names[actor])];
 }
 
 function toPlace(place, key = "") {
@@ -70,7 +72,7 @@ function end(run, loss) {
   if (loss.end === "open") return part("end", "the run ends, and nobody was told");
   const { actor } = run.entry(loss.to);
   const next = run.losses.firstOf(loss) + run.losses.countIn(loss);
-  const told = loss.end === "told" ? [` lagged by ${loss.lost}, and goes on with `, sentWords(run, run.values.sendOf(loss.channel, next))]
+  const told = loss.end === "told" ? [` lagged by ${grouped(loss.lost)}, and goes on with `, sentWords(run, run.values.sendOf(loss.channel, next))]
     : [run.losses.isUnwound(loss) ? " dropped it after the test failed" : " dropped it: nobody was ever told"];
   return part("end", toPlace(loss.to, "E"), " ", ...who(run, actor), ...sourceOf(run, loss.to), ...told);
 }
@@ -84,15 +86,15 @@ export function lossCard(run, here, place, isAll) {
   const turn = here.length > 1 ? [element("p", { class: "turn" }, `${grouped(here.length)} receivers lose values here `,
     element("button", { type: "button", "data-loss": "turn", title: "the next of them (N)" }, "next"))] : [];
   const head = element("h3", {}, ...rowName(run, loss.channel, run.lifeOf(loss.channel, loss.receiver)), ` lost ${count} `,
-    element("span", { class: `pill ${loss.end}` }, word(run, loss)));
+    element("span", { class: `pill ${loss.end === "told" && place < loss.to ? "open" : loss.end}` }, word(run, loss, place)));
   const story = element("p", { class: "story" }, element("button", { type: "button", "data-loss": "story", title: "the cause in the picture, or no more (P)" }, "draw the cause"));
   return [element("section", { class: `loss ${loss.end}`, "aria-label": "the loss here" }, ...turn, head,
     element("dl", {}, cause(run, loss), values(run, loss, place, isAll), reader(run, loss), end(run, loss)), story)];
 }
 
 // The same in one line, for a narrow screen.
-export function lossPeek(run, [loss]) {
+export function lossPeek(run, [loss], place) {
   const [first] = run.losses.valuesOf(loss, 1);
-  return [element("b", {}, outside(run.titleOf(loss.channel, loss.receiver)), ` lost ${grouped(loss.lost)}`), ` · ${word(run, loss)} · `,
+  return [element("b", {}, outside(run.titleOf(loss.channel, loss.receiver)), ` lost ${grouped(loss.lost)}`), ` · ${word(run, loss, place)} · `,
     first === undefined ? "overwritten before the window" : sentWords(run, first.sent)];
 }

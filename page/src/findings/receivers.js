@@ -19,7 +19,10 @@ function endingOf(run, channel, life, state) {
   const { waiting } = run.names;
   const waits = waiting.find(it => it.channel === channel && it.handle === life.handle);
   if (life.to <= run.lastPlace) return `dropped at call ${grouped(life.to)}`;
-  if (waits) return `waits in ${visible(waits.call)} since ${sinceText(run.placeOf(waits.since), run.lead)}`;
+  if (waits) {
+    const begun = `in ${visible(waits.call)} since ${sinceText(run.placeOf(waits.since), run.lead)}`;
+    return waits.woken ? `waited ${begun}, and was woken` : `waits ${begun}`;
+  }
   const closed = closedFor(run, channel, life);
   if (closed !== null) return closed;
   if (state.seen !== undefined) return versionOf(run.ending.channels[channel], state, run.isWindow(channel));

@@ -7,6 +7,9 @@ import { countUpTo } from "../run/values.js";
 import { hitsOfCondition, seek } from "./conditions.js";
 import { hitsOf } from "./text_search.js";
 
+// Where a search has gone on that found nothing up to its end.
+const FROM = { rforward: ", from the start again", rback: ", from the end again" };
+
 export class Searching {
   // `placeNow` returns the current place, `jump` goes to a place that was found, and `onHits` marks hits that are found later.
   constructor(run, shown, { placeNow, jump, onHits }, onFault) {
@@ -43,14 +46,28 @@ export class Searching {
     const more = conditions.length > 1 ? `, or ${conditions.length - 1} like it` : "";
     const what = ["searching ", word === "rback" ? "back" : "on", " for ", outside(conditions[0]), more];
     const start = this.placeNow();
-    const found = await during(what, () => seek(this.run, start, word, conditions));
+    const found = await during(what, () => this.seekAround(start, word, conditions));
     if (isOver()) return;
     if (found.place !== null) {
-      this.found = { start, command: `${word} ${found.condition}`, place: found.place };
+      this.found = { start: found.start, command: `${found.word} ${found.condition}`, place: found.place };
       this.jump(found.place);
     }
-    this.tell(found.place === null, found.answer);
+    this.tell(found.place === null, found.place === null ? found.answer : `hit at call ${grouped(found.place)}${found.around}`);
     if (conditions.length === 1) this.countHits(found, isOver).catch(this.onFault);
+  }
+
+  // Searches from a place on, and from the other end of the run where nothing is found up to this one. Returns also by which search it was found.
+  async seekAround(start, word, conditions) {
+    const last = this.run.lastPlace;
+    // A search back finds no hit at its own place, so the last place is looked for from the one before it.
+    const others = word === "rback" ? [[last - 1, "rforward"], [last, "rback"]] : [[0, "rforward"]];
+    let first = null;
+    for (const [from, way] of [[start, word], ...others.filter(([from, way]) => from >= 0 && (from !== start || way !== word))]) {
+      const found = await seek(this.run, from, way, conditions);
+      if (found.place !== null) return { ...found, start: from, word: way, around: first === null ? "" : FROM[word] };
+      first ??= found;
+    }
+    return { ...first, start, word, around: "" };
   }
 
   // Marks and counts all hits of a condition, once they are found.
@@ -94,16 +111,13 @@ export class Searching {
     const { places } = this.shown.hits;
     const here = this.placeNow();
     const index = word === "rback" ? countUpTo(places, here - 1) - 1 : countUpTo(places, here);
-    const place = places[index];
+    // Past the last one it goes on at the other end.
+    const isAround = places[index] === undefined;
+    const hit = !isAround ? index : word === "rback" ? places.length - 1 : 0;
     this.found = null;
-    if (place !== undefined) this.jump(place);
-    this.tell(place === undefined, ...(place === undefined ? this.noHit(word) : [`hit ${grouped(index + 1)} of ${grouped(places.length)}`]));
-  }
-
-  noHit(word) {
-    const { places, text } = this.shown.hits;
-    if (places.length === 0) return ["no call has ", outside(text)];
-    return [`none of the ${countOf(places.length, "hit")} is ${word === "rback" ? "before" : "after"} it`];
+    if (places.length === 0) return this.tell(true, "no call has ", outside(text));
+    this.jump(places[hit]);
+    this.tell(false, `hit ${grouped(hit + 1)} of ${grouped(places.length)}${isAround ? FROM[word] : ""}`);
   }
 
   // Forgets the hits of the last search.

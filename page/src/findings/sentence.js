@@ -103,7 +103,10 @@ export function atTheStart(run) {
   return [element("span", { class: "mute" }, `${said}${hint}`)];
 }
 
-// A call in one short line, for a list, and where it stands in the sources. A value that has a text is shown by it alone.
+// The folders of a path.
+const FOLDERS = /^.*[\\/]/;
+
+// A call in one short line, for a list, and where it stands in the sources, without the folders of that file. A value that has a text is shown by it alone.
 export function shortLine(entry, run) {
   const hasText = textOf(entry, run.names) !== null;
   const source = run.sourceOf(entry.number);
@@ -112,6 +115,6 @@ export function shortLine(entry, run) {
   const call = hasText ? [`${channel}${run.methodOf(entry)} ${run.numberOf(entry.channel, entry.handle)} `, valueWords(run, entry.channel, valueOf(entry))] : [`${channel}${whole}`];
   return [
     element("span", { title: [whole, run.timeOf(entry)].filter(it => it).join(", ") }, ...call),
-    ...(source ? [element("small", { title: visible(`${source[0]}:${source[1]}`) }, outside(`${source[0]}:${source[1]}`))] : []),
+    ...(source ? [element("small", { title: visible(`${source[0]}:${source[1]}`) }, outside(`${source[0].replace(FOLDERS, "")}:${source[1]}`))] : []),
   ];
 }

@@ -1,6 +1,7 @@
 // The state at the place, channel by channel, as text. The channel of the call comes first, then the calls around it, then the others.
 
 import { element, outside } from "../base/dom.js";
+import { grouped } from "../base/numbers.js";
 import { isolated } from "../base/text.js";
 import { kindOf } from "../draw/heads.js";
 import { rowName } from "../draw/row_names.js";
@@ -14,7 +15,7 @@ const MOST_READERS = 6;
 // A retained value, and beside it the receivers that read it next.
 function valueBox(run, index, number, text, readers) {
   const marks = readers.slice(0, MOST_READERS).map(receiver => element("span", { class: receiver.lag ? "reader lag" : "reader" }, `↑ ${run.numberOf(index, receiver.handle)}`));
-  if (readers.length > MOST_READERS) marks.push(element("span", { class: "reader" }, `+${readers.length - MOST_READERS}`));
+  if (readers.length > MOST_READERS) marks.push(element("span", { class: "reader" }, `+${grouped(readers.length - MOST_READERS)}`));
   return element("li", {}, element("button", { type: "button", class: "box", "data-value": `${index} ${number}`, title: text, "aria-description": "shows who sent, received and lost it" }, outside(text)), ...marks);
 }
 
@@ -32,7 +33,7 @@ function overwritten(channel, index, run) {
     return element("li", {}, element("del", { class: "box", title: text, "data-value": `${index} ${number}` }, outside(text)));
   });
   const hidden = lag - shown.length;
-  if (hidden) boxes.unshift(element("li", {}, element("span", { class: "box older" }, `+${hidden}`)));
+  if (hidden) boxes.unshift(element("li", {}, element("span", { class: "box older" }, `+${grouped(hidden)}`)));
   return element("ol", { class: "overwritten", "aria-label": "overwritten values that receivers lost, the oldest first" }, ...boxes);
 }
 
@@ -47,7 +48,7 @@ function retained(channel, index, run) {
     const readers = channel.receivers.filter(receiver => receiver.unread > 0 && Math.max(receiver.position, oldest) === position);
     return valueBox(run, index, position, names.value(index, value), readers);
   });
-  if (hidden) boxes.unshift(element("li", {}, element("span", { class: "box older" }, `+${hidden}`)));
+  if (hidden) boxes.unshift(element("li", {}, element("span", { class: "box older" }, `+${grouped(hidden)}`)));
   return element("ol", { class: "values", "aria-label": "retained values, the oldest first" }, ...boxes);
 }
 
@@ -63,9 +64,9 @@ function standing(channel, index, receiver, run) {
     return receiver.seen ? [`${version}, seen`] : [element("strong", { class: "unseen" }, version)];
   }
   if (receiver.unread === 0) return ["up to date"];
-  const readable = `${receiver.unread - receiver.lag} to read`;
+  const readable = `${grouped(receiver.unread - receiver.lag)} to read`;
   if (receiver.lag === 0) return [readable];
-  return [`${readable}, `, element("strong", { class: "lag" }, `${run.lagOf(index, receiver)} overwritten`)];
+  return [`${readable}, `, element("strong", { class: "lag" }, `${grouped(run.lagOf(index, receiver))} overwritten`)];
 }
 
 function row(name, ...children) {
@@ -75,7 +76,7 @@ function row(name, ...children) {
 // Handles by their names, or by their kind and number: a number alone would read as how many they are.
 function listed(handles, kind, index, run) {
   const called = handles.slice(0, MOST_HANDLES).map(handle => run.names.handle(index, handle) ?? `${kind} ${run.numberOf(index, handle)}`);
-  const more = handles.length > MOST_HANDLES ? ` and ${handles.length - MOST_HANDLES} more` : "";
+  const more = handles.length > MOST_HANDLES ? ` and ${grouped(handles.length - MOST_HANDLES)} more` : "";
   return called.map(isolated).join(", ") + more || "none";
 }
 
@@ -83,7 +84,7 @@ function handles(channel, index, run) {
   const receivers = channel.receivers.slice(0, MOST_HANDLES);
   const rows = receivers.map(receiver => row(rowName(run, index, run.lifeOf(index, receiver.handle)), ...standing(channel, index, receiver, run)));
   const left = channel.receivers.length - receivers.length;
-  if (left) rows.push(row(["receivers"], `and ${left} more`));
+  if (left) rows.push(row(["receivers"], `and ${grouped(left)} more`));
   rows.push(row(["senders"], listed(channel.senders, "sender", index, run)));
   if (channel.weak) rows.push(row(["weak senders"], listed(channel.weak, "weak sender", index, run)));
   return element("dl", {}, ...rows);
@@ -91,18 +92,18 @@ function handles(channel, index, run) {
 
 function currentValue(channel, index, run) {
   const text = run.names.value(index, channel.value);
-  return element("p", { class: "current" }, element("span", { class: "box", title: text }, outside(text)), run.isWindow(index) ? "" : ` version ${channel.version}`);
+  return element("p", { class: "current" }, element("span", { class: "box", title: text }, outside(text)), run.isWindow(index) ? "" : ` version ${grouped(channel.version)}`);
 }
 
 // What a channel that isn't unfolded says of its receivers.
 function summary(channel, index, run) {
   if (channel.kind === "watch") {
     const unseen = channel.receivers.filter(receiver => !receiver.seen).length;
-    return unseen ? element("small", { class: "unseen" }, ` ${unseen} not up to date`) : "";
+    return unseen ? element("small", { class: "unseen" }, ` ${grouped(unseen)} not up to date`) : "";
   }
   const lags = channel.receivers.map(receiver => run.lagOf(index, receiver)).filter(lag => lag > 0);
   const sum = lags.reduce((all, lag) => all + lag, 0);
-  return lags.length ? element("small", { class: "lag" }, ` ${lags.length} lag, −${sum}`) : "";
+  return lags.length ? element("small", { class: "lag" }, ` ${grouped(lags.length)} lag, −${grouped(sum)}`) : "";
 }
 
 function section(channel, index, run, isOpen) {

@@ -15,12 +15,12 @@ import { wholeCall } from "./whole_call.js";
 function callsAround(run, place, { shown, before }) {
   const least = place < run.lead ? 1 : run.lead + 1;
   const first = Math.max(least, Math.min(place - before, run.lastPlace - shown + 1));
-  const width = String(run.lastPlace).length;
+  const width = grouped(run.lastPlace).length;
   const lines = [];
   for (let number = first; number <= Math.min(run.lastPlace, first + shown - 1); number++) {
     const entry = run.entry(number);
     const line = element("button", { "data-place": number, class: number > run.lead ? entry.reply : "mute", tabindex: -1 },
-      run.actors.badge(entry.actor), ` ${String(number).padStart(width)}  `, ...shortLine(entry, run));
+      run.actors.badge(entry.actor), ` ${grouped(number).padStart(width)}  `, ...shortLine(entry, run));
     if (number === place) line.setAttribute("aria-current", "step");
     lines.push(element("li", {}, line));
   }
@@ -31,7 +31,8 @@ const MOST_CHIPS = 8;
 
 // How many calls are listed, and how many of them are before the place.
 const CALLS = { shown: 12, before: 5 };
-const FEW_CALLS = { shown: 4, before: 1 };
+// Rows for fingers are higher.
+const FEW_CALLS = { shown: matchMedia("(pointer: coarse)").matches ? 3 : 4, before: 1 };
 
 // How wide a letter of the place is, in widths of a digit.
 const LETTER = 0.95;
@@ -98,10 +99,11 @@ export class Telling {
     byId("place").textContent = placeText(place, run);
     byId("calls").replaceChildren(...callsAround(run, place, this.screen.isNarrow ? FEW_CALLS : CALLS));
     byId("copied").textContent = "";
+    this.losses.forgetSaid();
     this.table.mark(here[0] ?? null);
     const isPeek = here.length > 0 && areNamed;
     byId("peek").hidden = !isPeek;
-    if (isPeek) byId("peek").replaceChildren(...lossPeek(run, here));
+    if (isPeek) byId("peek").replaceChildren(...lossPeek(run, here, place));
     this.tellWhole();
     this.tellConsole();
   }

@@ -25,18 +25,26 @@ function valuesWith(has, table) {
   return found.sort((a, b) => (a < b ? -1 : Number(a > b)));
 }
 
+// Whether an actor is the test itself.
+function isOfTest({ names }, actor) {
+  const { test } = names.ending;
+  return test !== undefined && names.shortActor(actor) === visible(test);
+}
+
 // Which of a run's things have the text in their names as the page shows them, by their numbers. In the calls and their replies the engine looks for it.
 function wantedOf(run, text) {
   const { names, actors, channels, lives } = run;
   const has = name => folded(name).includes(text);
+  // A test makes most calls itself: a part of its name is no reason to find all of them.
+  const ofActor = (name, actor) => (isOfTest(run, actor) ? folded(name) === text : has(name));
   const hasShown = finder(text);
   return {
     text,
-    actors: Uint8Array.from(actors.names, name => Number(has(name))),
+    actors: Uint8Array.from(actors.names, (name, actor) => Number(ofActor(name, actor))),
     channels: Uint8Array.from(channels, (_, channel) => Number(has(names.channel(channel)))),
     locations: Uint8Array.from(names.tables.locations.map(([file, line]) => Number(has(`${file}:${line}`)))),
     handles: lives.map((lives, channel) => lives.filter(({ handle }) => has(names.handle(channel, handle) ?? "")).map(({ handle }) => BigInt(handle))),
-    values: channels.map((_, channel) => valuesWith(hasShown, names.tables.values[channel] ?? {})),
+    values: channels.map((_, channel) => valuesWith(hasShown, names.tables.values.table(channel))),
   };
 }
 

@@ -2,6 +2,7 @@
 
 import { byId, fieldOf } from "../base/dom.js";
 import { leaveAnswer, showTab } from "../base/tabs.js";
+import { closeKeyLine } from "../draw/legend.js";
 import { copyCommands, copyReport, saveDrawing, savePicture } from "../share/sharing.js";
 
 const STILL = 8;
@@ -71,9 +72,9 @@ function turnChannel(page, event) {
   page.walk?.turnChannel(Number(head.parentElement.dataset.channel));
 }
 
-// The steps that the account tells of. One of a loss has the loss chosen.
+// The steps that the account tells of, and the failure above it. One of a loss has the loss chosen.
 function listenToAnswer(page) {
-  byId("answer-box").addEventListener("click", event => {
+  for (const id of ["failed", "answer-box"]) byId(id).addEventListener("click", event => {
     const target = /** @type {HTMLElement} */ (event.target);
     /** @type {HTMLElement} */
     const link = target.closest("[data-place]");
@@ -116,6 +117,7 @@ function listenToButtons(page) {
   press(page, "nearer", walk => walk.zoom(0.5));
   press(page, "whole", walk => walk.whole());
   press(page, "open-stops", walk => walk.ask());
+  byId("key-close").addEventListener("click", closeKeyLine);
   press(page, "copy", copyCommands);
   press(page, "report", walk => copyReport(walk, page.source.name));
   press(page, "save", walk => savePicture(walk, page.source.name));
@@ -208,7 +210,14 @@ function listenToRows(page) {
   byId("strip-box").addEventListener("scroll", () => page.walk?.screen.measureStrip());
   new ResizeObserver(() => page.walk?.scrolled()).observe(byId("pane"));
   filter.addEventListener("input", () => page.walk?.refold(folds => { folds.filter = filter.value; }));
-  filter.addEventListener("keydown", event => event.key === "Escape" && filter.blur());
+  filter.addEventListener("keydown", event => {
+    if (event.key !== "Escape") return;
+    // Some browsers empty the field for this key, and tell nobody if it is left meanwhile.
+    event.preventDefault();
+    filter.value = "";
+    page.walk?.refold(folds => { folds.filter = ""; });
+    filter.blur();
+  });
   press(page, "order", walk => walk.reorder());
   press(page, "fold-all", walk => walk.refold(folds => folds.turnAll()));
 }

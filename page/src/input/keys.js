@@ -28,7 +28,7 @@ const KEYS = [
   { keys: ["0"], shown: "0", does: "the whole run", move: walk => walk.whole() },
   { keys: ["ArrowDown"], shown: "↓, ↑", does: "scroll the rows", move: () => byId("pane").scrollBy(0, ROWS) },
   { keys: ["ArrowUp"], move: () => byId("pane").scrollBy(0, -ROWS) },
-  { keys: ["f", "F"], shown: "F", does: "into the field that filters the rows by name; Escape leaves it", move: () => fieldOf("filter").select() },
+  { keys: ["f", "F"], shown: "F", does: "into the field that filters the rows by name; Escape empties it", move: () => fieldOf("filter").select() },
   { keys: ["z", "Z"], shown: "Z", does: "fold or unfold all", move: walk => walk.refold(folds => folds.turnAll()) },
   { keys: ["x", "X"], shown: "X", does: "fold or unfold the channel of the call", move: walk => walk.turnBand() },
   { keys: ["o", "O"], shown: "O", does: "the channels that lost most first, or all by number", move: walk => walk.reorder() },

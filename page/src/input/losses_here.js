@@ -16,6 +16,8 @@ export class LossesHere {
     this.shown = shown;
     // The losses at a place, once they are found.
     this.known = null;
+    /** @type {{ text: string, place: number } | null} what was said last of losses, and at which place it is so */
+    this.said = null;
   }
 
   // The losses at the place: the chosen one first, then that of the call's receiver, those that begin there, and the largest.
@@ -52,16 +54,30 @@ export class LossesHere {
   // Chooses the loss that begins or ends at the next place where one does, and returns that place, or null if there is none.
   next(isBack) {
     const place = this.run.losses.next(this.view.place, isBack);
-    const found = byId("found");
-    found.classList.toggle("lag", place === null);
-    found.textContent = place === null ? `no loss begins or ends ${isBack ? "before" : "after"} it` : "";
-    if (place === null) return null;
+    byId("found").classList.toggle("lag", place === null);
+    if (place === null) {
+      this.say(`no loss begins or ends ${isBack ? "before" : "after"} it`, this.view.place);
+      return null;
+    }
     const those = this.run.losses.at(place).filter(({ from, to }) => from === place || to === place);
     [this.shown.loss] = those.sort((a, b) => b.lost - a.lost);
     const begins = those.filter(({ from }) => from === place).length;
-    found.textContent = [[begins, "begin"], [those.length - begins, "end"]].filter(([count]) => count > 0)
-      .map(([count, word]) => (count === 1 ? `a loss ${word}s` : `${grouped(count)} losses ${word}`)).join(", ");
+    this.say([[begins, "begin"], [those.length - begins, "end"]].filter(([count]) => count > 0)
+      .map(([count, word]) => (count === 1 ? `a loss ${word}s` : `${grouped(count)} losses ${word}`)).join(", "), place);
     return place;
+  }
+
+  // Says what begins or ends at a place, which is so there alone.
+  say(text, place) {
+    byId("found").textContent = text;
+    this.said = { text, place };
+  }
+
+  // Says it no more elsewhere.
+  forgetSaid() {
+    if (this.said === null || this.said.place === this.view.place) return;
+    if (byId("found").textContent === this.said.text) byId("found").textContent = "";
+    this.said = null;
   }
 
   // Chooses the next receiver that lags at the place, in the order of channels and receivers.

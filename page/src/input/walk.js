@@ -59,24 +59,26 @@ export class Walk {
   /** @returns {Address} */
   get address() {
     const { folds } = this.screen;
-    return this.shown.address(folds.text, folds.first);
+    return this.shown.address(folds.text, folds.firstText);
   }
 
-  // Goes where an address leads, or without a place to where the account says. One with a place alone leaves folds and filter as they are.
+  // Goes where an address leads, or without a place to where the account says. One with a place alone leaves folds and filter as they are. A run that is
+  // opened there has the place in the middle.
   /** @param {Address} address */
-  restore({ place, view, fold, filter, order, stop, against }) {
+  restore({ place, view, fold, filter, order, stop, against }, isOpening = false) {
     const { folds } = this.screen;
     this.searching.stop();
     this.isStarting = place === null && this.run.account === null;
     if (stop !== null) fieldOf("condition").value = this.shown.stop = stop;
     this.shown.against = against;
     if (view !== null) {
-      folds.text = fold ?? folds.first;
+      folds.text = fold ?? folds.firstText;
       fieldOf("filter").value = folds.filter = filter ?? "";
       this.order(order === "number");
     }
     if (place === null) this.begin();
     else this.view.restore(place, view);
+    if (isOpening && place !== null && view === null) this.view.centre(this.view.place);
     this.chooseTold();
     this.reveal();
     this.render();
@@ -250,7 +252,7 @@ export class Walk {
   // Changes what is folded or filtered.
   refold(change) {
     change(this.screen.folds);
-    byId("fold-all").textContent = this.screen.folds.areAll ? "unfold all" : "fold all";
+    byId("fold-all").setAttribute("aria-pressed", String(this.screen.folds.areAll));
     this.screen.arrange();
     this.render();
   }
@@ -273,7 +275,7 @@ export class Walk {
 
   order(isByNumber) {
     this.screen.folds.isByNumber = isByNumber;
-    byId("order").textContent = isByNumber ? "by number" : "lossy first";
+    byId("order").setAttribute("aria-pressed", String(isByNumber));
     this.screen.resize();
   }
 

@@ -6,8 +6,8 @@ import { OtherPicture } from "../draw/other_picture.js";
 import { Names } from "../run/names.js";
 import { OtherAxis } from "../run/other_axis.js";
 import { Run } from "../run/run.js";
-import { readFiles } from "./file_choice.js";
 import { namesFor } from "./opener.js";
+import { readFiles } from "./reading.js";
 import { wrongLine } from "./refusals.js";
 import { newKey, recallByEnd } from "./stored_runs.js";
 

@@ -2,6 +2,7 @@
 
 import { fromBase64 } from "../base/bytes.js";
 import { byId } from "../base/dom.js";
+import { elementsHere, runOf } from "./run_in_page.js";
 
 // The key of the run in the page's own file, in the browser's history.
 export const OWN = "own";
@@ -23,22 +24,9 @@ export function hasEmbeddedRun() {
   return byId("run").firstChild !== null;
 }
 
-// Returns the bytes of ASCII texts, one behind the other.
-function asciiBytes(texts) {
-  const bytes = new Uint8Array(texts.reduce((sum, text) => sum + text.length, 0));
-  const encoder = new TextEncoder();
-  let at = 0;
-  for (const text of texts) at += encoder.encodeInto(text, bytes.subarray(at)).written;
-  return bytes;
-}
-
-// Returns a run's file name, its bytes, and those of its file of names, if it has one, for a page that has a run. Each part is one line in base64.
-// A journal may be the text of elements of its own instead, since nothing in a journal is markup. There are several, since WebKit reads an element of a
-// few megabytes in seconds, and one of 35 in minutes: it copies what it has for each piece that follows.
+// Returns the run of a page that has one: its name, and how it is unpacked.
 export function embeddedRun() {
-  const parts = byId("run").textContent.split("\n").slice(1, -1).map(fromBase64);
-  const texts = [...document.querySelectorAll("#journal, .journal")].map(it => it.textContent.slice(1));
-  if (texts.length > 0) parts.splice(1, 0, asciiBytes(texts));
-  const [name, bytes, names] = parts;
-  return { key: OWN, name: new TextDecoder().decode(name), bytes, names };
+  const elements = elementsHere();
+  const name = new TextDecoder().decode(fromBase64(elements.run.split("\n")[0]));
+  return { key: OWN, name, unpack: (noted, begun) => runOf(elements, noted, begun) };
 }

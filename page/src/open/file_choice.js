@@ -1,69 +1,27 @@
-// Files that are chosen or dropped: runs, and files of names that come before, with or after their run.
+// What is chosen or dropped: runs, and files of names that come before, with or after their run.
 
 import { byId, element, outside } from "../base/dom.js";
 import { during, showPart, tell } from "../base/notice.js";
 import { sizeOf } from "../base/numbers.js";
-import { unpacked } from "./unpacked.js";
-
-const GZIP_END = /\.gz$/;
-const LAST_END = /\.[^.]*$/;
-const NAMES_END = ".names";
-const BRACE = 123;
-
-// The name by which a run and its names belong together: without `.gz`, and without the last ending.
-function stemOf(name) {
-  return name.replace(GZIP_END, "").replace(LAST_END, "");
-}
-
-// No journal and no script begins with a brace.
-function isNames({ name, bytes }) {
-  return name.replace(GZIP_END, "").endsWith(NAMES_END) || bytes[0] === BRACE;
-}
-
-async function readFile(file) {
-  try {
-    return { name: file.name, size: file.size, ...await unpacked(new Uint8Array(await file.arrayBuffer())) };
-  } catch (fault) {
-    return { name: file.name, fault: fault.message };
-  }
-}
-
-// Gives each run the names beside it. A single run gets the only file of names, whatever it is called.
-function paired(runs, names) {
-  const left = new Set(names);
-  for (const run of runs) {
-    const beside = names.find(it => stemOf(it.name) === stemOf(run.name)) ?? (runs.length === 1 && names.length === 1 ? names[0] : null);
-    if (beside === null) continue;
-    run.names = beside.bytes;
-    run.namesFile = beside.name;
-    left.delete(beside);
-  }
-  return [...left];
-}
-
-// Returns the runs among these files, with the names beside them, the files of names that are left, and the files that can't be read.
-export async function readFiles(files) {
-  const read = await Promise.all(files.map(readFile));
-  const whole = read.filter(it => it.fault === undefined);
-  const runs = whole.filter(it => !isNames(it));
-  const names = paired(runs, whole.filter(isNames));
-  return { runs, names, unread: read.filter(it => it.fault !== undefined) };
-}
+import { outcomeOf, paired, readFiles } from "./reading.js";
 
 // Names in one line, with commas between them.
 function listed(files) {
   return files.flatMap(({ name }, i) => (i ? [", ", outside(name)] : [outside(name)]));
 }
 
+// What is known of a run before it is opened: how its test ended, how long its file is, and whether it has names.
 function runRow(run, index) {
+  const outcome = outcomeOf(run);
   const facts = `${sizeOf(run.size)}${run.names ? ", with names" : ""}`;
-  return element("li", {}, element("button", { type: "button", "data-run": index }, outside(run.name)), " ", element("small", {}, facts));
+  const mark = outcome === "" ? [] : [element("b", outcome === "passed" ? {} : { class: "lag" }, outcome), " "];
+  return element("li", {}, element("button", { type: "button", "data-run": index }, outside(run.name)), " ", ...mark, element("small", {}, facts));
 }
 
 // Two runs to be compared: the one that failed first, if the names say so.
 function inOrder(runs) {
-  const hasFailed = ({ names }) => names && /"failed": *true/.test(new TextDecoder().decode(names));
-  return [...runs].sort((a, b) => Number(Boolean(hasFailed(b))) - Number(Boolean(hasFailed(a))));
+  const hasFailed = run => Number(["failed", "hangs"].includes(outcomeOf(run)));
+  return [...runs].sort((a, b) => hasFailed(b) - hasFailed(a));
 }
 
 export class WayIn {
@@ -76,7 +34,7 @@ export class WayIn {
     this.names = [];
   }
 
-  // Takes files. What is dropped may also be text, which has no files, or a folder, which can't be read.
+  // Takes files. What is dropped may also be text, which has no files.
   async take(files) {
     if (files.length === 0) return;
     const { runs, names, unread } = await during(["reading ", ...listed(files)], () => readFiles(files));

@@ -4,9 +4,10 @@ import { byId, outside } from "../base/dom.js";
 import { Latest } from "../base/latest.js";
 import { during, showPart, tell, tellFault } from "../base/notice.js";
 import { countOf, grouped, sizeOf } from "../base/numbers.js";
+import { readPalette } from "../base/palette.js";
 import { showTab } from "../base/tabs.js";
 import { isolated, visible } from "../base/text.js";
-import { legend } from "../draw/legend.js";
+import { legend, showKeyLine } from "../draw/legend.js";
 import { Screen } from "../draw/screen.js";
 import { View, columnsThatFit, placesAtFirst } from "../draw/view.js";
 import { openAccount } from "../findings/answer.js";
@@ -16,47 +17,21 @@ import { forgetPlace, pushRun, readAddress } from "../input/address.js";
 import { Walk } from "../input/walk.js";
 import { bindingsOf } from "../run/bindings.js";
 import { windowText } from "../run/lead.js";
-import { Names, readNames } from "../run/names.js";
+import { Names, namesIn } from "../run/names.js";
 import { isJournal } from "../run/opened_text.js";
 import { Run } from "../run/run.js";
 import { Shown } from "../run/shown.js";
 import { waitingCall } from "../run/waiting.js";
+import { asBeginning, callsIn, firstLines, isLong } from "./beginning.js";
 import { OWN } from "./embedded.js";
 import { faultPanel, misfit } from "./refusals.js";
 import { keep, newKey } from "./stored_runs.js";
 import { unpacked } from "./unpacked.js";
 
-// The first calls of a long journal text are shown while all of it is read. In bytes: from which length on a text is long, and how much of it is its
-// beginning.
-const LONG = 2 << 20;
-const BEGINNING = 64 << 10;
-const LINE_END = 10;
-const END = new TextEncoder().encode("end\n");
-
-// Returns the whole lines at the beginning of a long journal text as a journal text, or null if the text isn't long.
-function beginningOf(text) {
-  if (text.length < LONG) return null;
-  const size = text.lastIndexOf(LINE_END, BEGINNING) + 1;
-  const made = new Uint8Array(size + END.length);
-  made.set(text.subarray(0, size));
-  made.set(END, size);
-  return made;
-}
-
-// How many entries a journal text with `heads` heads has, by its lines.
-function entriesIn(text, heads) {
-  let lines = 0;
-  for (let i = 0; i < text.length; i++) if (text[i] === LINE_END) lines++;
-  const isWhole = END.every((byte, i) => text[text.length - END.length + i] === byte);
-  return lines - heads - 2 - Number(isWhole);
-}
-
-// Returns what was opened of a beginning as that of a run of which no more is known: handles that are alive at its end live on, and losses that are
-// open there are left out, since it isn't known whether they will be told.
-function asBeginning(opened, text) {
-  const lastPlace = entriesIn(text, opened.opening.channels.length);
-  const lives = opened.lives.map(those => those.map(life => (life.to > opened.lastPlace ? { ...life, to: lastPlace + 1 } : life)));
-  return { ...opened, isBeginning: true, lastPlace, lives, losses: opened.losses.filter(({ end }) => end !== "open") };
+// What these calls do, of which some may have been woken.
+function waitVerb(waits) {
+  if (waits.some(it => it.said === "was woken")) return "began to wait";
+  return waits.length === 1 ? "waits" : "wait";
 }
 
 function factsOf(source, run) {
@@ -65,7 +40,7 @@ function factsOf(source, run) {
   if (run.names.window) facts.push(" · ", outside(windowText(run.names.window, run.lastPlace, visible)));
   if (source.notes.length > 0) facts.push(` · read from ${source.notes.join(", ")}`);
   if (run.waiting) facts.push(` · line ${run.waiting.line} would wait: `, outside(run.waiting.text));
-  else if (run.waits.length > 0) facts.push(` · ${countOf(run.waits.length, "call")} ${run.waits.length === 1 ? "waits" : "wait"}: `, outside(run.waits.map(it => it.text).join("; ")));
+  else if (run.waits.length > 0) facts.push(` · ${countOf(run.waits.length, "call")} ${waitVerb(run.waits)}: `, outside(run.waits.map(it => it.text).join("; ")));
   if (run.names.core !== "") facts.push(" · ", outside(run.names.core));
   return facts;
 }
@@ -75,7 +50,7 @@ function placeWanted({ names }) {
   const { place } = readAddress(location.href);
   if (place !== null || !names) return place ?? 0;
   try {
-    const { account, window } = readNames(new TextDecoder().decode(names));
+    const { account, window } = namesIn(names);
     return firstPlace(account, window?.lead);
   } catch {
     // What is wrong with them is said once the run is read.
@@ -88,8 +63,7 @@ function placeWanted({ names }) {
 export function namesFor(run, bytes, file, isBeginning = false) {
   const what = file === undefined ? "The file of names" : outside(file);
   try {
-    const names = readNames(new TextDecoder().decode(bytes));
-    names.bytes = bytes;
+    const names = namesIn(bytes);
     const why = isBeginning ? null : misfit(names, run);
     if (why === null) return names;
     tell(what, ` isn't of this run: ${why}.`);
@@ -160,16 +134,28 @@ export class Opener {
     byId("facts").replaceChildren(outside(source.name));
     document.title = `${isolated(visible(source.name))} · Yovanelum`;
     this.remember(source);
+    const hasBegun = source.unpack && await this.unpack(source);
     if (!source.notes) Object.assign(source, await unpacked(source.bytes));
     const what = ["opening ", outside(source.name), `, ${sizeOf(source.bytes.length)}`];
     const opened = await during(what, async () => {
-      await this.showBeginning(source);
+      if (!hasBegun) await this.showBeginning(source, source);
       return this.read(source);
     });
     this.leaveBeginning();
     if (opened.fault === undefined) return this.show(opened, source);
     byId("refusal").replaceChildren(...faultPanel(opened.fault, source.bytes));
     showPart("refusal");
+  }
+
+  // Unpacks the run in the page. Its beginning is shown before it goes on. Returns whether there is one that may be shown by then.
+  async unpack(source) {
+    let hasBegun = false;
+    const begin = beginning => {
+      hasBegun = true;
+      return this.showBeginning(source, beginning);
+    };
+    await during(["unpacking ", outside(source.name)], async noted => Object.assign(source, await source.unpack(noted, begin), { unpack: null }));
+    return hasBegun;
   }
 
   // Reads a run with the debugger. Of a truncated journal, what is left of it is read.
@@ -184,19 +170,21 @@ export class Opener {
     return again;
   }
 
-  // Shows the first calls of a long journal, if the address leads there. They can be walked once all of it is read.
-  async showBeginning(source) {
-    const text = isJournal(source.bytes) ? beginningOf(source.bytes) : null;
-    if (text === null) return;
+  // Shows the first calls of a long journal, if the address leads there: of these bytes, of which there may be more. They can be walked once all is read.
+  async showBeginning(source, { bytes, names, calls }) {
+    if (!isJournal(bytes) || !(calls || isLong(bytes))) return;
     const address = readAddress(location.href);
-    const places = placesAtFirst(placeWanted(source));
-    const opened = await this.openText(text, places);
-    if (opened.fault || Math.max(...places, ...(address.view ?? [])) > opened.lastPlace) return;
-    const run = new Run(this.client, asBeginning(opened, source.bytes), new Names());
-    const names = source.names && namesFor(run, source.names, source.namesFile, true);
+    const places = placesAtFirst(placeWanted({ names }));
+    const last = Math.max(...places, ...(address.view ?? []));
+    const count = calls ?? callsIn(bytes);
+    if (last > count) return;
+    const opened = await this.openText(firstLines(bytes), places);
+    if (opened.fault || last > opened.lastPlace) return;
+    const run = new Run(this.client, asBeginning(opened, count), new Names());
+    const itsNames = names && namesFor(run, names, source.namesFile, true);
     await run.findBeginning();
     // The calls that wait do so after the last call.
-    if (names) run.rename(Object.assign(names, { waiting: [] }));
+    if (itsNames) run.rename(Object.assign(itsNames, { waiting: [] }));
     byId("walk").setAttribute("aria-busy", "true");
     this.beginning = this.walkOver(run);
   }
@@ -230,10 +218,11 @@ export class Opener {
     openAccount(run);
     showTab("answer", null);
     const table = new LossTable(run, shown.table);
+    showKeyLine(run, readPalette());
     const screen = new Screen(run, view, shown);
     byId("legend").replaceChildren(...legend(run, screen.palette));
     const walk = new Walk(run, view, screen, table, tellFault);
-    walk.restore(readAddress(location.href));
+    walk.restore(readAddress(location.href), true);
     return walk;
   }
 
@@ -267,6 +256,7 @@ export class Opener {
     if (!walk) return;
     walk.screen.resize();
     byId("legend").replaceChildren(...legend(walk.run, walk.screen.palette));
+    showKeyLine(walk.run, walk.screen.palette);
     walk.render();
   }
 

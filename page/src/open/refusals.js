@@ -7,22 +7,23 @@ import { countOf, grouped } from "../base/numbers.js";
 // The calls by which a value gets into a channel, with the value as the first of their arguments.
 const SENT = new Set(["sent", "stored", "old", "told", "no-receivers"]);
 
-function largest(table) {
-  return Object.keys(table).reduce((most, key) => Math.max(most, Number(key)), -1);
+function largest(keys) {
+  return keys.reduce((most, key) => Math.max(most, Number(key)), -1);
 }
 
-// Whether the run has one of the values in this table on a channel: as a sent value, or as the first one of a watch. Also true if the
+// Whether the run has one of the values with these texts on a channel: as a sent value, or as the first one of a watch. Also true if the
 // channel has no value at all.
-function hasOneOf(run, channel, table) {
+function hasOneOf(run, channel, texts) {
   const { channels } = run.columns;
   const first = run.channels[channel].value;
-  if (first !== undefined && Object.hasOwn(table, first)) return true;
+  const has = value => texts.text(channel, value) !== undefined;
+  if (first !== undefined && has(first)) return true;
   let isSilent = true;
   for (let place = 1; place <= run.lastPlace; place++) {
     if (channels[place] !== channel) continue;
     const entry = run.entry(place);
     if (!SENT.has(entry.reply) || entry.rest === "") continue;
-    if (Object.hasOwn(table, entry.rest.split(" ")[0])) return true;
+    if (has(entry.rest.split(" ")[0])) return true;
     isSilent = false;
   }
   return isSilent;
@@ -31,13 +32,13 @@ function hasOneOf(run, channel, table) {
 // Returns why the names are those of another run, or null if nothing speaks against them.
 export function misfit(names, run) {
   const { channels, handles, values, calls } = names.tables;
-  const last = Math.max(...[channels, handles, values, calls].map(largest));
+  const last = Math.max(...[...[channels, handles, calls].map(Object.keys), values.channels].map(largest));
   if (last >= run.channels.length) {
     return `it names channel ${grouped(last)}, and this run has ${countOf(run.channels.length, "channel")}, from 0 on`;
   }
-  for (const [channel, table] of Object.entries(values)) {
-    const count = Object.keys(table).length;
-    if (count > 0 && !hasOneOf(run, Number(channel), table)) {
+  for (const channel of values.channels) {
+    const count = values.count(channel);
+    if (count > 0 && !hasOneOf(run, Number(channel), values)) {
       return `none of the ${countOf(count, "value")} that it names on channel ${channel} is sent there in this run`;
     }
   }

@@ -1,6 +1,6 @@
 // The bytes of a file as the debugger reads them: unpacked, in UTF-8 without a byte order mark, with lines that end in LF.
 
-import { inflated } from "../base/inflating.js";
+import { TooLong, unpackedParts } from "../base/unpacking.js";
 
 const CR = 13;
 const LF = 10;
@@ -9,7 +9,7 @@ const UTF_8 = [0xef, 0xbb, 0xbf];
 const UTF_16 = { "utf-16le": [0xff, 0xfe], "utf-16be": [0xfe, 0xff] };
 
 // What packs files otherwise, by the first bytes.
-const OTHERS = { zip: [0x50, 0x4b, 3, 4], zstd: [0x28, 0xb5, 0x2f, 0xfd], xz: [0xfd, 0x37, 0x7a, 0x58, 0x5a], bzip2: [0x42, 0x5a, 0x68] };
+const OTHERS = { zstd: [0x28, 0xb5, 0x2f, 0xfd], xz: [0xfd, 0x37, 0x7a, 0x58, 0x5a], bzip2: [0x42, 0x5a, 0x68] };
 
 function beginsWith(bytes, beginning) {
   return beginning.every((byte, i) => bytes[i] === byte);
@@ -42,10 +42,11 @@ export async function unpacked(file) {
   let bytes = file;
   if (beginsWith(bytes, GZIP)) {
     notes.push("gzip");
-    bytes = await inflated(bytes, "gzip").catch(() => { throw new Error("it is no whole gzip file"); });
+    const packed = bytes;
+    bytes = await unpackedParts([() => packed], "gzip").catch(fault => { throw fault instanceof TooLong ? fault : new Error("it is no whole gzip file"); });
   }
   const other = Object.keys(OTHERS).find(name => beginsWith(bytes, OTHERS[name]));
-  if (other) throw new Error(`it is packed by ${other}, and only gzip is unpacked here`);
+  if (other) throw new Error(`it is packed by ${other}, and only gzip and zip are unpacked here`);
   bytes = decoded(bytes, notes);
   if (bytes[bytes.indexOf(LF) - 1] === CR) {
     notes.push("CR LF");

@@ -1,6 +1,7 @@
 // A window: a run that doesn't begin where its channels were opened. Its first entries are a lead, calls that nobody made, which lead to the state in which
 // the window begins. What the names say of it, and which losses are of the run.
 
+import { grouped } from "../base/numbers.js";
 import { countUpTo } from "./values.js";
 
 // What the names say of a channel whose calls aren't all there.
@@ -66,8 +67,8 @@ export function timeOf(window, times, stamp) {
 }
 
 function callsOf(lead, length) {
-  const calls = length <= lead ? "no call" : length === lead + 1 ? `call ${length}` : `calls ${lead + 1} to ${length}`;
-  return lead === 0 ? calls : lead === 1 ? `${calls}; 1 leads to the window` : `${calls}; 1 to ${lead} lead to the window`;
+  const calls = length <= lead ? "no call" : length === lead + 1 ? `call ${grouped(length)}` : `calls ${grouped(lead + 1)} to ${grouped(length)}`;
+  return lead === 0 ? calls : lead === 1 ? `${calls}; 1 leads to the window` : `${calls}; 1 to ${grouped(lead)} lead to the window`;
 }
 
 // When and why the window was written, and its calls by their numbers. `escaped` puts a text on one line.

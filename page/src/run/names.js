@@ -4,6 +4,7 @@
 import { nth } from "../base/numbers.js";
 import { visible, visibleLines } from "../base/text.js";
 import { isAccount, known } from "./account.js";
+import { ReadTexts, readTables } from "./packed_names.js";
 import { areTasks } from "./tasks.js";
 
 const NEWEST = 5;
@@ -75,9 +76,25 @@ const KEYS = {
 // What a call that waits is to users, where the journal has the word of a call that doesn't.
 const WAITED = { "receiver-count": "closed", update: "wait_for" };
 
-// Reads a file of names, or throws an error that says what is wrong with it. The version is looked at first, since a later one may have other keys.
+// What was read of texts of names, by their bytes: that of a long run takes a while, and is needed before the run is read and after it.
+const read = new WeakMap();
+
+// Reads the bytes of a file of names, or throws an error that says what is wrong with it.
+export function namesIn(bytes) {
+  if (!read.has(bytes)) read.set(bytes, tablesIn(bytes));
+  const names = new Names(read.get(bytes));
+  names.bytes = bytes;
+  return names;
+}
+
+// The same of a text.
 export function readNames(text) {
-  const tables = JSON.parse(text);
+  return new Names(tablesIn(new TextEncoder().encode(text)));
+}
+
+// The version is looked at first, since a later one may have other keys.
+function tablesIn(bytes) {
+  const { tables, values, calls } = readTables(bytes);
   if (!isTable(tables, () => true)) throw new Error("it is no object");
   if (tables.version > NEWEST) throw new Error(`it has version ${tables.version}, and this page reads versions up to ${NEWEST}`);
   const keys = Object.keys(tables);
@@ -87,23 +104,36 @@ export function readNames(text) {
     const [isRight, wrong] = KEYS[key];
     if (!isRight(tables[key])) throw new Error(wrong);
   }
-  return new Names(tables);
+  return { ...tables, values: values ?? new ReadTexts(tables.values), calls: calls ?? tables.calls };
 }
 
 // How a test ended, and what of it wasn't recorded.
-function endingOf({ panics, returned, test, unrecorded, journal = null, failed }) {
+function endingOf({ panics, returned, test, unrecorded, journal = null, failed, hangs }) {
   const isPanic = it => isTable(it, () => true) && isNumber(it.since) && (it.actor === null || isNumber(it.actor));
   const counts = isTable(unrecorded, () => true) ? Object.entries(unrecorded).filter(([, count]) => isNumber(count) || count === true) : [];
   return {
     panics: isList(panics, isPanic) ? panics : [],
     returned: isTable(returned, () => true) && isNumber(returned.since) ? returned : null,
     test: isTable(test, isText) ? test.thread : undefined,
-    unrecorded: Object.fromEntries(counts), journal, hasFailed: failed === true,
+    unrecorded: Object.fromEntries(counts), journal, hasFailed: failed === true, hangs: hangs === true,
   };
 }
 
 function lookUp(table, key) {
   return table !== undefined && Object.hasOwn(table, key) ? table[key] : undefined;
+}
+
+// What channels without a name are called, by number: after the place that creates each, with the number where several are created there. The
+// account calls them so too.
+function calledByPlace({ channels, locations, made }) {
+  const lines = new Map();
+  for (const [channel, handles] of Object.entries(made)) {
+    const at = Object.hasOwn(channels, channel) ? undefined : locations[lookUp(handles, 0)];
+    if (at !== undefined) lines.set(channel, `${at[0]}:${at[1]}`);
+  }
+  const counts = new Map();
+  for (const line of lines.values()) counts.set(line, (counts.get(line) ?? 0) + 1);
+  return new Map([...lines].map(([channel, line]) => [channel, counts.get(line) === 1 ? `channel of ${line}` : `channel ${channel} of ${line}`]));
 }
 
 const NO_BYTES = new Uint8Array();
@@ -122,7 +152,7 @@ export class Names {
   constructor(tables = {}) {
     // The text that the engine reads them from, which is empty where there is none.
     this.bytes = NO_BYTES;
-    const { core = "", actors = {}, channels = {}, values = {}, handles = {}, locations = [], made = {}, calls = {}, tasks = {} } = tables;
+    const { core = "", actors = {}, channels = {}, values = new ReadTexts(), handles = {}, locations = [], made = {}, calls = {}, tasks = {} } = tables;
     const { waiting = [], journal = null, root = null, window = null, times = [], tasks_seen: tasksSeen = null } = tables;
     // Why the run begins in a window, and what was before it; and when some of its calls were made.
     this.window = window;
@@ -130,6 +160,7 @@ export class Names {
     // What was seen of the test's tasks.
     this.tasksSeen = tasksSeen;
     this.tables = { actors, channels, values, handles, locations, made, calls, tasks };
+    this.placed = calledByPlace({ channels, locations, made });
     this.core = visible(core);
     /** @type {Account | null} what was found in the run, in words */
     this.account = known(tables.account);
@@ -140,7 +171,7 @@ export class Names {
     this.root = root;
     /** @type {string | null} the checksum of the journal that these are the names of */
     this.journal = journal;
-    /** @type {{ actor: number, channel: number, handle: number, call: string, since: number, location?: number }[]} */
+    /** @type {{ actor: number, channel: number, handle: number, call: string, since: number, location?: number, woken?: boolean }[]} */
     this.waiting = waiting;
     // The names that the run's own script gives to handles.
     this.bindings = {};
@@ -158,7 +189,7 @@ export class Names {
   }
 
   channel(number) {
-    return named(this.tables.channels, number, `channel ${number}`);
+    return named(this.tables.channels, number, this.placed.get(String(number)) ?? `channel ${number}`);
   }
 
   // Returns undefined for a handle without a name of its own.
@@ -169,7 +200,7 @@ export class Names {
 
   // A value by its text, or by what it is called without one.
   value(channel, number) {
-    return named(lookUp(this.tables.values, channel), number, this.isOrdinal(channel, number) ? `its ${ordinal(number)} value` : String(number));
+    return visible(this.tables.values.text(channel, number) ?? (this.isOrdinal(channel, number) ? `its ${ordinal(number)} value` : String(number)));
   }
 
   // The same where there is little room.
@@ -179,12 +210,12 @@ export class Names {
 
   // Whether a value is called by which of its channel's it is. The crate numbers those from 0; in other journals a number is the value.
   isOrdinal(channel, number) {
-    return this.journal !== null && lookUp(lookUp(this.tables.values, channel), number) === undefined;
+    return this.journal !== null && this.tables.values.text(channel, number) === undefined;
   }
 
   // The same with its lines below each other.
   valueLines(channel, number) {
-    return visibleLines(lookUp(lookUp(this.tables.values, channel), number) ?? this.value(channel, number));
+    return visibleLines(this.tables.values.text(channel, number) ?? this.value(channel, number));
   }
 
   // A place in the sources by its number, as `src/bus.rs:15`, or undefined.

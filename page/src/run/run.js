@@ -337,7 +337,7 @@ export class Run {
   // Requests something for which the engine needs the names of the run: it gets them once.
   async askNamed(request, ...values) {
     const { bytes } = this.names;
-    if (this.named.bytes !== bytes) this.named = { bytes, request: this.client.request("name", bytes) };
+    if (this.named.bytes !== bytes) this.named = { bytes, request: this.client.name(bytes) };
     await this.named.request;
     return this.client.request(request, ...values);
   }

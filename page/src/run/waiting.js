@@ -20,14 +20,16 @@ export function waitingCall(bytes, lineNumber, run) {
   const text = steps.pop();
   const [, actor, channel, word, handle] = CALL.exec(text);
   return {
-    line: lineNumber, text, actor: Number(actor), channel: Number(channel), word, handle: handleOf(handle, steps, run), since: run.lastPlace, isTried: true,
+    line: lineNumber, text, actor: Number(actor), channel: Number(channel), word, handle: handleOf(handle, steps, run), since: run.lastPlace, said: "would wait",
   };
 }
 
-// Returns the calls that waited when the names were written, unless they are of channels that this run doesn't have.
+// Returns the calls that waited when the names were written, unless they are of channels that this run doesn't have. One that was woken then and hadn't gone
+// on says so.
 export function waitsOf(run) {
   return run.names.waiting.filter(({ channel }) => channel < run.channels.length).map(it => ({
     actor: it.actor, channel: it.channel, handle: it.handle, word: it.call, since: run.placeOf(it.since), text: waitText(it, run),
+    said: it.woken ? "was woken" : "waits",
   }));
 }
 
@@ -39,10 +41,11 @@ function holderText(holder, run) {
   return `, for a look taken${place ? ` at ${place}` : ""} by ${isolated(run.names.actor(holder.actor))}`;
 }
 
-function waitText({ actor, channel, handle, call, since, location, held_by: holder }, run) {
+function waitText({ actor, channel, handle, call, since, location, woken, held_by: holder }, run) {
   const place = run.names.location(location);
   const whose = run.lifeOf(channel, handle) ? run.titleOf(channel, handle) : `handle ${handle}`;
   const who = isolated(run.names.actor(actor));
   const where = isolated(run.names.channel(channel));
-  return `${who} waits in ${visible(call)} of ${whose} on ${where} since ${sinceText(run.placeOf(since), run.lead)}${place ? `, at ${place}` : ""}${holderText(holder, run)}`;
+  const begun = `${visible(call)} of ${whose} on ${where} since ${sinceText(run.placeOf(since), run.lead)}${place ? `, at ${place}` : ""}`;
+  return woken ? `${who} waited in ${begun}, and was woken` : `${who} waits in ${begun}${holderText(holder, run)}`;
 }

@@ -6,6 +6,8 @@ import { FONT, readPalette } from "../base/palette.js";
 import { isolated, visible } from "../base/text.js";
 import { fitted } from "../draw/canvas.js";
 import { legendItems } from "../draw/legend.js";
+import { plainText } from "../findings/account_text.js";
+import { failureLines } from "../findings/failure.js";
 
 const CAPTION = 26;
 const NOTE = 18;
@@ -13,10 +15,15 @@ const NOTE_LEFT = 60;
 const LEFT = 10;
 const MIDDLE = 13;
 
-// The words of an element, without the codes of actors.
+// The words of an element, without the codes of actors and the buttons that lead to no call.
 export function wordsOf(part) {
   const copy = part.cloneNode(true);
-  for (const badge of copy.querySelectorAll(".badge, button")) badge.remove();
+  for (const it of copy.querySelectorAll(".badge, .copy, [data-loss]")) it.remove();
+  // What has an element of its own is divided from what comes after it.
+  for (const head of copy.querySelectorAll("dt")) head.append(": ");
+  for (const button of copy.querySelectorAll("li button")) button.prepend(" ");
+  for (const item of copy.querySelectorAll("li:not(:last-child)")) item.append(", ");
+  for (const pill of copy.querySelectorAll(".pill")) pill.replaceWith(`(${pill.textContent})`);
   return copy.textContent.replace(/\s+/g, " ").trim();
 }
 
@@ -25,9 +32,15 @@ export function cardLines() {
   return [...byId("state").querySelectorAll(".loss h3, .loss dl > div")].map(wordsOf).filter(text => text !== "");
 }
 
+// How the test failed, and the first fact of its account.
+function headLines(run) {
+  const [fact] = run.account?.facts ?? [];
+  return [...failureLines(run), ...(fact ? [fact.text[0]] : [])].map(plainText);
+}
+
 // What is below the drawings, each line with its mark if it has one.
 function notesOf(run, palette) {
-  return [...cardLines().map(text => ({ text, draw: null })), ...legendItems(run, palette)];
+  return [...[...headLines(run), ...cardLines()].map(text => ({ text, draw: null })), ...legendItems(run, palette)];
 }
 
 // Draws in a part of the height alone, with its upper end as 0.

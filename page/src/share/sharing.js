@@ -4,6 +4,7 @@
 import { byId } from "../base/dom.js";
 import { visible } from "../base/text.js";
 import { cleared } from "../draw/canvas.js";
+import { failureLines } from "../findings/failure.js";
 import { cardLines, composition, wordsOf } from "./composing.js";
 import { SvgPen } from "./svg_pen.js";
 
@@ -26,10 +27,10 @@ export function copyCommands(walk) {
 // What the account says, as the lines of a text.
 function accountLines(account) {
   if (account === null) return ["what was found is being counted"];
-  const { window, unknown, failed, facts, rest, nothing, waiting, tasks } = account;
+  const { window, unknown, facts, rest, nothing, waiting, tasks } = account;
   return [
     ...(window ? [window.text] : []),
-    ...(unknown.length > 0 ? [`not all is known: ${unknown.join("; ")}`] : []), ...(failed ? [`failed: ${failed.text}`] : []), ...facts.slice(0, rest.after).flatMap(({ text }) => text),
+    ...(unknown.length > 0 ? [`not all is known: ${unknown.join("; ")}`] : []), ...facts.slice(0, rest.after).flatMap(({ text }) => text),
     ...[rest.text, nothing].filter(line => line !== null), ...waiting.map(({ text }) => `still waiting: ${text}`),
     ...tasks.map(({ text }) => `waits: ${text}`),
   ].map(visible);
@@ -41,13 +42,20 @@ function fenceOf(lines) {
   return "`".repeat(longest + 1);
 }
 
-// The account, how another run differs, the call at the place and the loss there, as Markdown, with the page's address.
+// Where the page is, for others: its address, unless that is a file of this machine, of which they have the name.
+function whereabouts() {
+  if (location.protocol !== "file:") return `The page: <${location.href}>`;
+  return `In the page \`${decodeURIComponent(location.pathname.split("/").at(-1)).replaceAll("`", "")}\`, at \`${location.hash.replaceAll("`", "")}\`.`;
+}
+
+// How the test failed, the account, how another run differs, the call at the place and the loss there, as Markdown, with where the page is.
 export function copyReport(walk, name) {
   const { run, view } = walk;
+  const failure = failureLines(run);
   const lines = [`${byId("place").textContent}: ${view.place <= run.lead ? "the start" : wordsOf(byId("sentence"))}`, ...cardLines()];
   const difference = walk.shown.other === null ? [] : [walk.shown.other.compared.lines.map(visible)];
-  const blocks = [accountLines(run.account), ...difference, lines].map(those => [fenceOf(those) + "text", ...those, fenceOf(those)].join("\n"));
-  return copyText(`### ${visible(name).replace(/[\\`*_<>#[\]]/g, "\\$&")}\n\n${blocks.join("\n\n")}\n\nThe page: <${location.href}>\n`);
+  const blocks = [failure, accountLines(run.account), ...difference, lines].filter(those => those.length > 0).map(those => [fenceOf(those) + "text", ...those, fenceOf(those)].join("\n"));
+  return copyText(`### ${visible(name).replace(/[\\`*_<>#[\]]/g, "\\$&")}\n\n${blocks.join("\n\n")}\n\n${whereabouts()}\n`);
 }
 
 // Has the browser save a file.

@@ -9,45 +9,39 @@ const decoder = new TextDecoder();
 export class Engine {
   constructor(bytes) {
     this.module = new WebAssembly.Module(bytes);
-    // The text that was opened, and that of its names, for a fresh instance.
-    this.text = null;
-    this.names = new Uint8Array();
     this.start();
   }
 
-  // Opens a journal text or a script. Returns the parts of its run, or throws its first fault.
-  open(text) {
-    this.text = null;
-    this.names = new Uint8Array();
+  // Opens a journal text or a script: this one, or else the one that was written in pieces. Returns the parts of its run, or throws its first fault.
+  open(text = null) {
+    if (text !== null) this.write(text, 0, text.length);
     this.isOpen = false;
-    const parts = this.call("open", text);
-    this.text = text;
+    const parts = this.call("open");
     this.isOpen = true;
     return parts;
   }
 
+  // Writes a piece of the text that is opened next, which begins there in all of it. The first makes room for all.
+  write(piece, at, length) {
+    if (at === 0) this.room = this.exports.text(length);
+    if (this.room === 0) throw new Error("no memory");
+    this.copy(piece, this.room + at);
+  }
+
   // Takes the text of a file of names for the opened run, or throws what is wrong with it.
   name(names) {
-    this.names = names;
     this.ofRun("name", names);
   }
 
-  // Asks something of the opened run.
+  // Asks something of the opened run. After a trap none is: the engine keeps no text of it.
   ofRun(name, ...inputs) {
-    if (this.text === null) throw new Error("no run is open");
-    if (!this.isOpen) this.openAgain();
+    if (!this.isOpen) throw new Closed("no run is open");
     return this.call(name, ...inputs);
   }
 
   // The same, where the answer is a text.
   textOf(name, ...inputs) {
     return decoder.decode(this.ofRun(name, ...inputs)[0]);
-  }
-
-  openAgain() {
-    this.call("open", this.text);
-    this.call("name", this.names);
-    this.isOpen = true;
   }
 
   // Calls an export with some typed arrays or texts, and returns the parts of its answer. A trap leaves the memory half written. So after one the next
@@ -71,12 +65,18 @@ export class Engine {
     /** @type {any} */
     this.exports = new WebAssembly.Instance(this.module).exports;
     this.isOpen = false;
+    // Where the text that is opened next is written, or 0.
+    this.room = 0;
+  }
+
+  put(input) {
+    const at = this.exports.input(input.byteLength);
+    if (at === 0) throw new Error("no memory");
+    this.copy(input, at);
   }
 
   // When the memory grows, it becomes another buffer, so a view of it must be used at once.
-  put({ buffer, byteOffset, byteLength }) {
-    const at = this.exports.input(byteLength);
-    if (at === 0) throw new Error("no memory");
+  copy({ buffer, byteOffset, byteLength }, at) {
     new Uint8Array(this.exports.memory.buffer, at, byteLength).set(new Uint8Array(buffer, byteOffset, byteLength));
   }
 
@@ -90,3 +90,6 @@ export class Engine {
 
 // Why there is no answer, in the engine's words.
 export class Fault extends Error {}
+
+// That no run is open.
+export class Closed extends Error {}

@@ -30,7 +30,8 @@ function opened(engine, text) {
   }
 }
 
-// Opens a journal text or a script. The states at `places` are read together with the opening, as far as there are such places.
+// Opens a journal text or a script: this one, or else the one that was written in pieces. The states at `places` are read together with the opening, as far
+// as there are such places.
 export function openRun(engine, text, places) {
   const parts = opened(engine, text);
   if (!Array.isArray(parts)) return { fault: parts };

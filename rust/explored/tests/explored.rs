@@ -4,25 +4,35 @@
 
 #[path = "explored/asked.rs"]
 mod asked;
+#[path = "explored/covered.rs"]
+mod covered;
 #[path = "explored/json.rs"]
 mod json;
 #[path = "explored/natural.rs"]
 mod natural;
+#[path = "explored/points.rs"]
+mod points;
 mod programs;
+#[path = "explored/races.rs"]
+mod races;
+#[path = "explored/sessions.rs"]
+mod sessions;
 #[path = "explored/slow.rs"]
 mod slow;
 #[path = "explored/table.rs"]
 mod table;
+#[path = "explored/timed.rs"]
+mod timed;
 
-use json::{hangs, number, text};
+use json::{best_of_ten, hangs, number, text};
 use std::path::{Path, PathBuf};
 use std::process::{Command, Output};
 use std::sync::atomic::{AtomicU32, Ordering};
 use std::{env, fs, process};
 
-/// Declares a test for each program, which is explored by others.
+/// Declares a test for each program, which is explored by others. Those of the table come first.
 macro_rules! programs {
-    ($($group:ident: $($name:ident)*;)*) => {
+    ({ $($group:ident: $($name:ident)*;)* } { $($other:ident: $($beside:ident)*;)* }) => {
         mod run {
             /// A recorder by itself, and the guard that makes it one of a test.
             #[test]
@@ -34,6 +44,19 @@ macro_rules! programs {
                 crate::programs::threads::double_claim();
             }
 
+            /// Their recorder is made on a runtime whose workers are there before it.
+            #[test]
+            #[ignore = "it is explored by another test"]
+            fn sleeps_beside_a_receive() {
+                crate::programs::limits::sleeps_beside_a_receive();
+            }
+
+            #[test]
+            #[ignore = "it is explored by another test"]
+            fn waits_for_a_limit() {
+                crate::programs::limits::waits_for_a_limit();
+            }
+
             $($(
                 #[test]
                 #[ignore = "it is explored by another test"]
@@ -42,22 +65,45 @@ macro_rules! programs {
                     crate::programs::$group::$name();
                 }
             )*)*
+
+            $($(
+                #[test]
+                #[ignore = "it is explored by another test"]
+                fn $beside() {
+                    let _recorder = yovanelum::Recorder::for_test(stringify!($beside));
+                    crate::programs::$other::$beside();
+                }
+            )*)*
         }
 
-        /// The program of each name.
+        /// The program of each name in the table.
         pub const PROGRAMS: &[(&str, fn())] = &[$($((stringify!($name), programs::$group::$name as fn()),)*)*];
     };
 }
 
 programs! {
-    threads: late_audit lost_update check_then_send slow_handler lag_of_33 last_job_at_stop torn_limits double_claim resubscribe_gap
-        four_in_order eight_turns waits_forever;
-    workers: copy_then_subscribe read_before_lock weak_plugin start_by_count leaves_after_answers;
-    tasks: overtaken_router old_price heart_and_monitor config_by_timer told_too_early read_before_await subscribes_after_answer
-        job_behind_stop first_of_a_set closed_pool;
-    servers: chat acknowledged_too_early chat_on_one_thread;
-    right: paused_clock long_timeout socket spin held_lock nested_closures barrier biased_select join_set blocking_pool
-        many_sends skipping_audit;
+    {
+        threads: late_audit lost_update check_then_send slow_handler lag_of_33 last_job_at_stop torn_limits double_claim resubscribe_gap
+            four_in_order eight_turns waits_forever;
+        workers: copy_then_subscribe read_before_lock weak_plugin start_by_count leaves_after_answers;
+        tasks: overtaken_router old_price heart_and_monitor config_by_timer told_too_early read_before_await subscribes_after_answer
+            job_behind_stop first_of_a_set closed_pool;
+        timers: ready_within_a_limit leaves_when_idle asks_again flushed_in_between taken_to_be_dead evicted_before_it_is_read
+            published_too_early given_up_at_stop two_leaders second_answer_is_late;
+        servers: chat acknowledged_too_early chat_on_one_thread;
+        right: paused_clock long_timeout socket spin held_lock nested_closures barrier biased_select join_set blocking_pool
+            many_sends skipping_audit;
+        limits: limit_of_a_game limit_on_workers limit_by_a_sleep limit_put_off deadline_of_many limit_beside_ticks
+            connections_end_in_time connections_take_three_quarters;
+    }
+    {
+        races: first_to_lock added_to_an_old_sum rings_too_early no_permit_left one_permit_each first_message looks_once answers_too_late
+            not_listening_yet stopped_before_its_job;
+        covered: two_sends_and_a_look one_waits nobody_shares;
+        points: last_table drained_then_closed sold_twice loaded_twice told_before_it_waits answers_who_left skipped_count;
+        edges: has_a_file fails_by_chance fails_always leaves_a_process slow_lost_update listens_by_then;
+        limits: limit_outside_of_its_runtime;
+    }
 }
 
 /// A program, which is run again in a process of its own.
@@ -82,6 +128,7 @@ impl Program {
         command
             .args(["--ignored", "--exact", &name, "--nocapture"])
             .env("RUST_BACKTRACE", "0")
+            .env(programs::edges::FOLDER, &self.folder)
             .env_remove("YOVANELUM_KEEP");
         command
     }
@@ -101,11 +148,11 @@ impl Program {
         let out = self.folder.join("out.json");
         let ran = self
             .command()
-            .envs(variables.iter().copied())
             .env("YOVANELUM_EXPLORE", runs.to_string())
             .env("YOVANELUM_EXPLORE_FROM", from)
             .env("YOVANELUM_EXPLORE_JOBS", "1")
             .env("YOVANELUM_EXPLORE_OUT", &out)
+            .envs(variables.iter().copied())
             .output()
             .unwrap();
         let json = fs::read_to_string(out).unwrap_or_default();
@@ -178,8 +225,16 @@ fn assert_found(name: &'static str, lines: &[&str]) {
     assert_brought_back(name, lines, 10);
 }
 
-/// The same, where it is brought back so often of ten at least.
-fn assert_brought_back(name: &'static str, lines: &[&str], times: u64) {
+/// Asserts that a report says that a timer has ended: by a choice or, on a machine that is busy, by
+/// the machine's clock while tasks were held.
+fn assert_tells_time(said: &str) {
+    let by_choice = said.contains("  time passed at step ");
+    let by_clock = said.contains("  timers of the machine's clock went on for ");
+    assert!(by_choice || by_clock, "{said}");
+}
+
+/// As [`assert_found`], where it is brought back so often of ten at least. Returns what was said.
+fn assert_brought_back(name: &'static str, lines: &[&str], times: u64) -> String {
     let program = Program::new(name);
     let (passes, said, json) = program.explored(500, "0");
     assert!(!passes, "{said}");
@@ -188,8 +243,7 @@ fn assert_brought_back(name: &'static str, lines: &[&str], times: u64) {
     }
     let runs = number(&json, "runs");
     assert!(runs <= 500, "{json}");
-    let best = number(&json, "byJournal").max(number(&json, "bySchedule"));
-    assert!(best >= times, "{json}");
+    assert!(best_of_ten(&json) >= times, "{json}");
     let journal = text(&json, "journal");
     assert!(Path::new(&journal).exists(), "{json}");
     let hangs = hangs(&json);
@@ -207,6 +261,7 @@ fn assert_brought_back(name: &'static str, lines: &[&str], times: u64) {
         number(&json, "byOrder") > 0,
         "{again} in {said}"
     );
+    said
 }
 
 /// Asserts that no order of this program fails, in `runs` runs.
@@ -275,7 +330,7 @@ fn an_order_of_polls_is_found_and_brought_back_by_the_schedule() {
     assert_found(
         "old_price",
         &[
-            "the journal brings it back 0 of 10, the schedule's file 10 of 10, the order ",
+            "the journal brings it back 0 of 5, the schedule's file 5 of 5, the order ",
             "an old price stays",
         ],
     );
@@ -388,11 +443,7 @@ fn a_guard_explores_the_test_whose_channels_are_made_behind_it() {
     let (passes, said, json) = program.explored(100, "0");
     assert!(!passes, "{said}");
     assert!(said.contains("explored guarded: "), "{said}");
-    assert_eq!(
-        number(&json, "byJournal").max(number(&json, "bySchedule")),
-        10,
-        "{json}"
-    );
+    assert_eq!(best_of_ten(&json), 10, "{json}");
 }
 
 #[test]
@@ -443,6 +494,17 @@ fn a_variable_that_is_none_is_refused() {
             "YOVANELUM_EXPLORE_TIME",
             "always",
             "YOVANELUM_EXPLORE_TIME is `always`, and not `never`",
+        ),
+        (
+            "YOVANELUM_EXPLORE_POINTS",
+            "some",
+            "YOVANELUM_EXPLORE_POINTS is `some`, and not `all`",
+        ),
+        // This program wasn't built by the command.
+        (
+            "YOVANELUM_EXPLORE_POINTS",
+            "all",
+            "YOVANELUM_EXPLORE_POINTS needs the command `cargo yovanelum explore`",
         ),
     ] {
         let program = Program::new("socket");

@@ -19,7 +19,7 @@ pub(crate) use caller::{
     last_recorder, name_of_blocked, name_of_caller, name_of_future, name_of_sharing, name_of_task,
     name_of_thread_alone, number_of_caller, own_number, write_caller,
 };
-pub(crate) use explored::{is_in_task, is_over_facade, last_task, set_last_task};
+pub(crate) use explored::{is_in_task, is_over_facade, last_task, note_facade, set_last_task};
 pub(crate) use holders::Unused;
 pub(crate) use identity::Identity;
 pub(crate) use last_caller::LastCaller;

@@ -120,6 +120,15 @@ impl Recording {
         kept.map(Kept::of)
     }
 
+    /// Gives the chunks of the last calls this size or, if fewer calls are kept and others were
+    /// dropped, the size of what is kept. Returns the size.
+    pub(crate) fn resize_chunks(&mut self, size: usize) -> Option<usize> {
+        let flight = self.last.as_mut()?;
+        let kept = flight.len() as usize;
+        let mut sizes = [size, size.min(kept)].into_iter();
+        sizes.find(|size| *size > 0 && flight.resize(*size))
+    }
+
     /// Forgets the calls from before a renumbering, if as many later ones as a chunk has are kept.
     pub(crate) fn forget_past(&mut self) {
         if let Some(flight) = &mut self.last {
@@ -235,17 +244,18 @@ impl Recording {
 // has its own, of which the branches for others are left out.
 #[inline(never)]
 fn call_last(flight: &mut Flight, caller: Caller, call: impl FnOnce() -> ChanCall<u64>) -> Reply {
-    Reply::of(&flight.call(caller.actor.number(), caller.clock, call()))
+    Reply::of(flight.call(caller.actor.number(), caller.clock, call()))
 }
 
-/// Makes a call that isn't recorded. It is apart as [`call_last`] is.
-#[inline(never)]
+/// Makes a call that isn't recorded.
+#[cfg_attr(debug_assertions, inline(never))]
+#[cfg_attr(not(debug_assertions), inline(always))]
 fn call_unrecorded(
     all: &mut rw_recording::Recording,
     caller: Caller,
     call: impl FnOnce() -> ChanCall<u64>,
 ) -> Reply {
-    Reply::of(&all.call(caller.actor.number(), caller.clock, call()))
+    Reply::of(all.call(caller.actor.number(), caller.clock, call()))
 }
 
 /// Goes on from a recording that hasn't ended with its last calls alone.
@@ -272,7 +282,7 @@ macro_rules! methods {
                     return self.call_apart(caller, move || ChanCall::$side($side::$variant $args));
                 }
                 let call = ChanCall::$side($side::$variant $args);
-                Reply::of(&self.all.call(caller.actor.0, caller.clock, call))
+                Reply::of(self.all.call(caller.actor.0, caller.clock, call))
             })*)*
         }
     };

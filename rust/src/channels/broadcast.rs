@@ -78,6 +78,7 @@ use crate::channels::channel::{
 use crate::channels::guarded_by::GuardedBy;
 use crate::channels::handle::ChannelHandle;
 use crate::channels::lock::lock;
+use std::mem::MaybeUninit;
 use values::Values;
 
 /// The greatest capacity.
@@ -129,6 +130,7 @@ fn open<T>(capacity: usize) -> (Sender<T>, Receiver<T>) {
     };
     let recorded = RecordedChannel::add(core, 0, call_site());
     let values = GuardedBy::new(&*lock(&recorded.state), Values::new(capacity));
-    let (sender, receiver) = ChannelHandle::first_two(TypedChannel::new(recorded, values));
+    let channel = TypedChannel::shared(recorded, values, MaybeUninit::write);
+    let (sender, receiver) = ChannelHandle::first_two(channel);
     (Sender { handle: sender }, Receiver { handle: receiver })
 }

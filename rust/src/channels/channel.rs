@@ -2,6 +2,8 @@
 //! values, which the core doesn't know.
 
 mod at_gate;
+mod call_times;
+mod chunk_size;
 mod core_channel;
 mod kept;
 mod known;
@@ -11,13 +13,18 @@ mod locations;
 mod locked;
 mod machine;
 mod made_handles;
+mod notices;
 mod numbers;
 mod paused;
 mod receivers;
 mod recording;
 mod registry;
+mod seldom;
 mod sharing_callers;
 mod state;
+mod typed;
+mod waits;
+mod who_waits;
 
 pub(crate) use core_channel::{Call, CoreChannel, Send};
 pub(crate) use kept::{KeptChannel, NotedChannel};
@@ -26,21 +33,26 @@ pub(crate) use last_calls::SendMade;
 pub(crate) use locations::{CallSite, CallSites, call_site};
 pub(crate) use locked::LockedChannel;
 pub(crate) use receivers::{LiveReceiver, NO_SLOT, Slot};
-pub(crate) use registry::all as all_channels;
+pub(crate) use registry::{RegisteredChannel, all as all_channels};
 pub(crate) use state::ChannelState;
+pub(crate) use typed::TypedChannel;
+pub(crate) use waits::ListedCall;
+pub(crate) use who_waits::{WaitNow, WaitState};
 
+use crate::channels::channel_lock::ChannelLock;
+use crate::channels::in_place::arc_of;
 use crate::channels::lock::lock;
 use crate::channels::recorder::{
-    RecordedBy, Recorder, TextOf, note_channel, say_that_none_replays,
+    RecordedBy, Recorder, Shared, note_channel, say_that_none_replays,
 };
 use crate::channels::turns::{self, OrderedChannel};
 use registry::Registered;
-use std::sync::{Arc, Mutex, OnceLock};
+use std::sync::Arc;
 
 /// A channel with its recorder, if it has one. All calls are made through it.
 pub struct RecordedChannel {
     pub(crate) recorder: RecordedBy,
-    pub(crate) state: Arc<Mutex<ChannelState>>,
+    pub(crate) state: Arc<ChannelLock<ChannelState>>,
     // Where its calls wait for their turns, in a replay or a run that is explored.
     pub(crate) ordered: Option<OrderedChannel>,
     // Among all channels of the process, until the last sender or receiver is dropped.
@@ -58,34 +70,22 @@ impl RecordedChannel {
             say_that_none_replays(made_at);
         }
         let recorder = current.map(|current| current.0).filter(|it| !it.is_off());
-        let mut state = ChannelState::new(core, value_count, made_at);
-        state.receivers.add(1, made_at);
-        let mut may_be_added = true;
-        if let Some(recorder) = &recorder {
-            may_be_added = recorder.begin_flight(&mut state);
-            state.made_by = Some(recorder.maker());
-            state.store_making(made_at);
-            state.store_making(made_at);
-        }
+        let (state, may_be_added) = begun(core, value_count, made_at, recorder.as_deref());
         let ordered = recorder.as_ref().and_then(|recorder| {
             let explored = turns::explored().map(|run| run.turns.clone());
             let turns = explored.or_else(|| recorder.turns.clone())?;
-            let number = turns.channel_by(state.made_by.as_ref()?)?;
+            let number = turns.channel_by(lock(&state).made_by.as_ref()?)?;
             Some(OrderedChannel::new(turns, number))
         });
-        let state = Arc::new(Mutex::new(state));
-        let is_added = recorder
-            .as_ref()
-            .is_some_and(|recorder| may_be_added && recorder.add(&state));
-        if !is_added {
-            lock(&state).end_recording();
-        }
-        if recorder.is_none() {
-            lock(&state).core.leave_unnamed();
-        }
-        let number = recorder.as_ref().map(|recorder| recorder.id);
+        let is_added = recorder.as_ref().is_some_and(|recorder| {
+            let is_added = may_be_added && recorder.add(&state);
+            if !is_added {
+                lock(&state).end_recording();
+            }
+            is_added
+        });
         RecordedChannel {
-            _registered: Registered::add(&state, number),
+            _registered: Registered::add(&state, recorder.as_ref()),
             recorder: RecordedBy(recorder),
             state,
             ordered: ordered.filter(|_| is_added),
@@ -93,51 +93,30 @@ impl RecordedChannel {
     }
 }
 
-/// A channel with its values, which are of the type `T`. `S` is how they are stored: a broadcast
-/// stores several, and a watch one.
-pub(crate) struct TypedChannel<T, S> {
-    pub(crate) recorded: RecordedChannel,
-    pub(crate) values: S,
-    text_of: OnceLock<TextOf<T>>,
-}
-
-impl<T, S> TypedChannel<T, S> {
-    pub(crate) fn new(recorded: RecordedChannel, values: S) -> TypedChannel<T, S> {
-        let text_of = OnceLock::new();
-        if recorded.recorder.shows_known() {
-            let _ = text_of.set(TextOf::known());
-        }
-        TypedChannel {
-            recorded,
-            values,
-            text_of,
-        }
-    }
-
-    /// Whether the channel has a function for the texts of values, and its recorder records.
-    #[inline]
-    pub(crate) fn has_text_of(&self) -> bool {
-        self.text_of.get().is_some() && self.recorded.recorder.is_recording()
-    }
-
-    /// Returns the text of a value, if the channel has a function for it and its recorder records.
-    #[inline]
-    pub(crate) fn text(&self, value: &T) -> Option<String> {
-        let text_of = self.text_of.get()?;
-        self.recorded
-            .recorder
-            .is_recording()
-            .then(|| text_of.text(value))?
-    }
-
-    /// Sets the function for the texts of values. Returns `false` if the channel has one already,
-    /// which it keeps.
-    pub(crate) fn set_text_of(&self, text_of: TextOf<T>) -> bool {
-        match self.text_of.get() {
-            Some(own) => own.give(text_of),
-            None => self.text_of.set(text_of).is_ok(),
-        }
-    }
+/// Returns a new channel as its recorder has it, if it has one, and else as one that isn't
+/// recorded. Also returns whether there was memory for what the recorder keeps.
+fn begun(
+    core: CoreChannel,
+    value_count: u64,
+    made_at: CallSite,
+    recorder: Option<&Shared>,
+) -> (Arc<ChannelLock<ChannelState>>, bool) {
+    // It is shared from the beginning, since it is large and would be moved.
+    let made = ChannelState::new(core, value_count, made_at);
+    let mut shared = arc_of(ChannelLock::new(made));
+    let state = Arc::get_mut(&mut shared).map(ChannelLock::get_mut);
+    let state = state.expect("it is shared with nobody");
+    state.receivers.add(1, made_at);
+    let Some(recorder) = recorder else {
+        state.end_recording();
+        state.core.leave_unnamed();
+        return (shared, false);
+    };
+    let may_be_added = recorder.begin_flight(state);
+    state.made_by = Some(recorder.maker());
+    state.store_making(made_at);
+    state.store_making(made_at);
+    (shared, may_be_added)
 }
 
 #[cfg(test)]
@@ -153,6 +132,6 @@ mod tests {
         let (tx, _rx) = broadcast::channel(2);
         recorder.show(&tx, u32::to_string);
         tx.send(5).unwrap();
-        assert!(lock(&tx.recorded().channel.state).texts.is_empty());
+        assert!(lock(&tx.recorded().channel.state).seldom().texts.is_empty());
     }
 }

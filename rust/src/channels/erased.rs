@@ -2,10 +2,14 @@
 //! that tests return.
 #![allow(unsafe_code)]
 
-use std::any::{Any, TypeId};
+#[cfg(feature = "debug_values")]
+mod any_debug;
+
+use std::any::{self, Any, TypeId};
 use std::collections::HashMap;
 use std::error::Error;
 use std::fmt::{self, Debug};
+use std::hash::{BuildHasher, BuildHasherDefault, DefaultHasher};
 use std::mem;
 use std::rc::Rc;
 use std::sync::{Arc, OnceLock};
@@ -134,11 +138,31 @@ impl KnownTypes {
 pub(crate) fn text_of<T>(value: &T) -> Option<String> {
     static KNOWN: OnceLock<KnownTypes> = OnceLock::new();
     let KnownTypes(known) = KNOWN.get_or_init(KnownTypes::new);
-    read(value, |value| known.get(&value.type_id())?(value))
+    let text = read(value, |value| known.get(&value.type_id())?(value));
+    #[cfg(feature = "debug_values")]
+    let text = text.or_else(|| any_debug::text_of(value));
+    text
 }
 
-/// Returns what a test prints of the error that it returns, if this is an `Err` of a known type.
+/// Returns what a test prints of the error that it returns, if this is an `Err`. Of an error whose
+/// type isn't known, that is nothing.
 pub(crate) fn error_in<T>(output: &T) -> Option<String> {
+    is_err(output).then(|| known_error_in(output).unwrap_or_default())
+}
+
+/// Whether what a test returns is an `Err`, of whatever type.
+fn is_err<T>(output: &T) -> bool {
+    let (like, own) = (any::type_name::<Result<(), ()>>(), any::type_name::<T>());
+    let is_result = like
+        .strip_suffix("()>")
+        .is_some_and(|result| own.starts_with(result));
+    // Which variant a value is can be read without a bound. It is hashed as its number.
+    let hasher = BuildHasherDefault::<DefaultHasher>::default();
+    let of_err = hasher.hash_one(mem::discriminant(&Err::<(), ()>(())));
+    is_result && hasher.hash_one(mem::discriminant(output)) == of_err
+}
+
+fn known_error_in<T>(output: &T) -> Option<String> {
     read(output, |output| {
         let texts = [
             error_of::<Box<dyn Error>>(output),
@@ -182,6 +206,30 @@ mod tests {
         assert_eq!(text_of(&Own), None);
         assert_eq!(text_of(&Some(Own)), None);
         assert_eq!(text_of(&&7_u8), None);
+    }
+
+    #[test]
+    fn an_error_of_any_type_is_seen_without_a_bound() {
+        // A `Result` of these two has no number of its variant in memory, but a null pointer.
+        enum NoNumber {
+            Missing(Box<u8>),
+        }
+        let (missing, seen) = (NoNumber::Missing(Box::new(1)), Some(String::new()));
+        let NoNumber::Missing(number) = &missing;
+        assert_eq!(error_in(&Err::<(), &u8>(number)), seen);
+        assert_eq!(error_in(&Ok::<(), &u8>(())), None);
+        assert_eq!(error_in(&Err::<(), NoNumber>(missing)), seen);
+        assert_eq!(error_in(&Ok::<(), NoNumber>(())), None);
+        assert_eq!(error_in(&Err::<(), u64>(7)), seen);
+        assert_eq!(error_in(&Ok::<(), u64>(())), None);
+        assert_eq!(error_in(&Err::<(), Vec<bool>>(vec![])), seen);
+        assert_eq!(error_in(&Err::<(), ()>(())), seen);
+        assert_eq!(error_in(&Ok::<(), ()>(())), None);
+        // None of these is what a test returns.
+        assert_eq!(error_in(&Err::<u64, u64>(7)), None);
+        assert_eq!(error_in(&Some(())), None);
+        assert_eq!(error_in(&std::ops::ControlFlow::<(), ()>::Break(())), None);
+        assert_eq!(error_in(&Some(Err::<(), u64>(7))), None);
     }
 
     #[test]

@@ -32,6 +32,9 @@ static PROCESS: Hooks = Hooks::new();
 /// receiver that falls behind may have at each call, looks for none.
 static ANY_FOR_LAGS: AtomicBool = AtomicBool::new(false);
 
+/// The same for closures that are called when a channel closes, as each one does.
+static ANY_FOR_CLOSES: AtomicBool = AtomicBool::new(false);
+
 impl Hooks {
     pub(crate) const fn new() -> Hooks {
         Hooks {
@@ -48,6 +51,7 @@ impl Hooks {
     }
 
     pub(crate) fn on_close(&self, told: impl Fn(&Close) + Send + Sync + 'static) {
+        ANY_FOR_CLOSES.store(true, Ordering::Relaxed);
         let before = lock(&self.close).replace(Arc::new(told));
         drop(before);
     }
@@ -168,6 +172,9 @@ impl Event {
         dump: Option<Box<DumpRequest>>,
         close: impl FnOnce() -> Close,
     ) -> Event {
+        if dump.is_none() && !ANY_FOR_CLOSES.load(Ordering::Relaxed) {
+            return Event::default();
+        }
         let find = |hooks: &Hooks| lock(&hooks.close).clone();
         Event::of(recorder, dump, find, |hook| ToldEvent::Close(hook, close()))
     }

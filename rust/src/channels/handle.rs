@@ -35,9 +35,9 @@ impl<T, S> RefUnwindSafe for ChannelHandle<T, S> {}
 
 impl<T, S> ChannelHandle<T, S> {
     /// Returns the two handles that the core opens each channel with: sender 0 and receiver 1.
-    pub(crate) fn first_two(channel: TypedChannel<T, S>) -> (Self, Self) {
+    pub(crate) fn first_two(channel: Arc<TypedChannel<T, S>>) -> (Self, Self) {
         let sender = ChannelHandle {
-            channel: Arc::new(channel),
+            channel,
             number: 0,
             slot: NO_SLOT,
             kind: Kind::Sender,
@@ -163,7 +163,7 @@ impl<T, S> ChannelHandle<T, S> {
     }
 
     /// A call that waits, with its state since it was polled before.
-    fn waiting(
+    pub(crate) fn waiting(
         &self,
         wait_for: WaitFor,
         word: Operation,
@@ -187,10 +187,10 @@ impl<T, S> ChannelHandle<T, S> {
         wait_for: WaitFor,
         word: Operation,
         method: Method,
-        attempt: impl Fn(&mut LockedChannel<'_>) -> Poll<R>,
+        mut attempt: impl FnMut(&mut LockedChannel<'_>) -> Poll<R>,
     ) -> R {
         let mut waiting = self.waiting(wait_for, word, method, Pending::default());
-        poll_fn(|context| waiting.poll(context, &attempt)).await
+        poll_fn(|context| waiting.poll(context, &mut attempt)).await
     }
 
     /// Takes one of the budget of the task that is polled, once there is one.
@@ -227,7 +227,7 @@ impl<T, S> ChannelHandle<T, S> {
         method: Method,
         pending: &mut Pending,
         context: &Context<'_>,
-        attempt: impl Fn(&mut LockedChannel<'_>) -> Poll<R>,
+        attempt: impl FnMut(&mut LockedChannel<'_>) -> Poll<R>,
     ) -> Poll<R> {
         let mut waiting = self.waiting(wait_for, word, method, mem::take(pending));
         let polled = waiting.poll(context, attempt);

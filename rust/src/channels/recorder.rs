@@ -16,7 +16,9 @@ mod texts;
 mod waiting;
 mod waits_then;
 
-pub(crate) use automatic::{ForTests, TestOfThread, give_to_tests, test_of_this_thread};
+pub(crate) use automatic::{
+    ForTests, TestOfThread, error_is_written, give_to_tests, test_expected, test_of_this_thread,
+};
 pub use current::{Entered, Installed, follow_this_thread};
 pub(crate) use current::{current_and_home, is_any_entered, is_entered};
 pub use flight::{Dump, Dumps};

@@ -75,15 +75,12 @@ impl Reply {
         }
     }
 
-    /// Returns the number of the value that a receive which doesn't wait has received.
-    #[cfg_attr(debug_assertions, inline(never))]
-    #[cfg_attr(not(debug_assertions), inline)]
-    pub(crate) fn received_at_once(self) -> Result<u64, TryRecvError> {
+    /// Returns why a receive which doesn't wait has received no value.
+    pub(crate) fn not_received(self) -> TryRecvError {
         match self {
-            Reply::Value(number) => Ok(number),
-            Reply::Lagged(count) => Err(TryRecvError::Lagged(count)),
-            Reply::Closed => Err(TryRecvError::Closed),
-            Reply::Empty => Err(TryRecvError::Empty),
+            Reply::Lagged(count) => TryRecvError::Lagged(count),
+            Reply::Closed => TryRecvError::Closed,
+            Reply::Empty => TryRecvError::Empty,
             reply => reply.unexpected(),
         }
     }

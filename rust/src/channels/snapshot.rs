@@ -3,15 +3,16 @@
 mod json;
 mod table;
 
-use crate::channels::channel::{CallSite, ChannelState, LiveReceiver, all_channels};
+use crate::channels::channel::{
+    CallSite, ChannelState, LiveReceiver, RegisteredChannel, WaitNow, WaitState, all_channels,
+};
 use crate::channels::handle::Kind;
 use crate::channels::lock::lock;
 use crate::channels::recorder::{Handle, Recorder};
-use crate::channels::wait::{Awaited, Wait};
+use crate::channels::wait::Awaited;
 use crate::run::sorting::sort_by_key;
 use std::panic::Location;
-use std::sync::{Arc, Mutex};
-use std::time::Duration;
+use std::time::{Duration, SystemTime, UNIX_EPOCH};
 
 /// Channels as they are at one moment, recorded or not: how much was sent, and how far each
 /// receiver is.
@@ -80,6 +81,7 @@ pub struct ChannelSnapshot {
     weak_senders: u64,
     sender: Option<String>,
     sent_at: CallSite,
+    sent_last: Option<NumberedCall>,
     receivers: Vec<ReceiverSnapshot>,
 }
 
@@ -109,11 +111,46 @@ pub struct ReceiverSnapshot {
     lag: u64,
     lost: u64,
     received_at: CallSite,
-    received_call: Option<u64>,
+    received: Option<NumberedCall>,
+    // The call that waits, and the one that was woken and has not gone on since.
     waits: Option<Waits>,
+    woken: Option<Waits>,
 }
 
-/// The call in which a receiver waits.
+/// A recorded call, as a dump has it too.
+#[derive(Clone, Copy, Debug, PartialEq, Eq)]
+struct NumberedCall {
+    stamp: u64,
+    /// Milliseconds since 1970, if it is known when it was called.
+    wall: Option<u64>,
+}
+
+impl NumberedCall {
+    /// Returns the call with this stamp, if it isn't 0, which that of one that isn't recorded is.
+    fn new(stamp: u64) -> Option<NumberedCall> {
+        (stamp > 0).then_some(NumberedCall { stamp, wall: None })
+    }
+
+    /// Adds when these calls of a channel with this state were made, at this time of the recorder's
+    /// clock.
+    fn add_times<'a>(
+        calls: impl Iterator<Item = &'a mut Option<NumberedCall>>,
+        state: &mut ChannelState,
+        clock: u64,
+    ) {
+        let calls: Vec<_> = calls.flatten().collect();
+        let stamps: Vec<_> = calls.iter().map(|call| call.stamp).collect();
+        for (call, wall) in calls.into_iter().zip(state.when(&stamps, clock)) {
+            call.wall = wall;
+        }
+    }
+
+    fn time(self) -> Option<SystemTime> {
+        UNIX_EPOCH.checked_add(Duration::from_millis(self.wall?))
+    }
+}
+
+/// A call in which a receiver waits, or waited until it was woken.
 #[derive(Clone, Debug, PartialEq, Eq)]
 struct Waits {
     call: &'static str,
@@ -172,17 +209,18 @@ impl Recorder {
     /// assert_eq!(snapshot.channels()[0].receivers()[0].unread(), 1);
     /// ```
     pub fn snapshot(&self) -> Snapshot {
-        Snapshot::of_all(all_channels(Some(self.0.id)))
+        Snapshot::of_all(all_channels(Some(&self.0)))
     }
 }
 
 impl Snapshot {
-    fn of_all(channels: Vec<Arc<Mutex<ChannelState>>>) -> Snapshot {
-        let channels = channels.iter();
+    fn of_all(channels: Vec<RegisteredChannel>) -> Snapshot {
+        let channels = channels.iter().map(|(channel, recorder)| {
+            let clock = recorder.as_ref().map(|recorder| recorder.last());
+            ChannelSnapshot::new(&mut lock(channel), clock)
+        });
         Snapshot {
-            channels: channels
-                .map(|channel| ChannelSnapshot::new(&mut lock(channel)))
-                .collect(),
+            channels: channels.collect(),
         }
     }
 
@@ -198,10 +236,13 @@ impl ChannelSnapshot {
     /// It is no method of senders and receivers, so it never has the name of one of tokio's. No
     /// call is recorded for it.
     pub fn of<H: Handle>(handle: &H) -> ChannelSnapshot {
-        ChannelSnapshot::new(&mut lock(&handle.recorded().channel.state))
+        let channel = &handle.recorded().channel;
+        let clock = channel.recorder.0.as_ref().map(|recorder| recorder.last());
+        ChannelSnapshot::new(&mut lock(&channel.state), clock)
     }
 
-    fn new(state: &mut ChannelState) -> ChannelSnapshot {
+    /// Returns what is on a channel with this state, at this time of its recorder's clock.
+    fn new(state: &mut ChannelState, clock: Option<u64>) -> ChannelSnapshot {
         let mut receivers: Vec<_> = state.receivers.iter().map(ReceiverSnapshot::new).collect();
         // Not by the number, which may have been that of another one before.
         sort_by_key(&mut receivers, |(number, _)| state.core.nth(*number));
@@ -211,6 +252,11 @@ impl ChannelSnapshot {
             .map(|(number, receiver)| receiver.in_channel(number, state))
             .collect();
         ReceiverSnapshot::add_waits(&mut receivers, state);
+        let mut sent_last = NumberedCall::new(state.sent_stamp());
+        if let Some(clock) = clock {
+            let received = receivers.iter_mut().map(|(_, it)| &mut it.received);
+            NumberedCall::add_times(received.chain([&mut sent_last]), state, clock);
+        }
         ChannelSnapshot {
             name: state.name_or_place(),
             made_at: state.made_at,
@@ -221,6 +267,7 @@ impl ChannelSnapshot {
             weak_senders: state.core.weak_senders(),
             sender: state.last_send.name().map(str::to_string),
             sent_at: state.last_send.called_at(),
+            sent_last,
             receivers: receivers
                 .into_iter()
                 .map(|(_, receiver)| receiver)
@@ -279,6 +326,37 @@ impl ChannelSnapshot {
         self.sent_at
     }
 
+    /// Returns the stamp of that send in the journal of the channel's recorder, if it is recorded.
+    /// A dump of a flight recorder has this stamp too, and `yovanelum why` tells the call as
+    /// `67108867 in snapshots`.
+    ///
+    /// # Examples
+    ///
+    /// The line of a call in a journal begins with its stamp:
+    ///
+    /// ```
+    /// use yovanelum::{ChannelSnapshot, Recorder, broadcast};
+    ///
+    /// let recorder = Recorder::flight(100);
+    /// let _entered = recorder.enter();
+    /// let (prices, _chart) = broadcast::channel(2);
+    /// prices.send(101).unwrap();
+    /// let stamp = ChannelSnapshot::of(&prices).sent_call().unwrap();
+    /// let send = format!("\n{stamp} 0 0 send 0 0 = sent 1\n");
+    /// assert!(recorder.journal().unwrap().contains(&send));
+    /// ```
+    pub fn sent_call(&self) -> Option<u64> {
+        Some(self.sent_last?.stamp)
+    }
+
+    /// Returns when that send was called, if a flight recorder knows it. A dump says the same.
+    ///
+    /// The recorder looks at the clock at one call of many, so it is the time between two others
+    /// that their stamps tell.
+    pub fn sent_time(&self) -> Option<SystemTime> {
+        self.sent_last?.time()
+    }
+
     /// Returns the receivers that are alive, in the order of their creation.
     pub fn receivers(&self) -> &[ReceiverSnapshot] {
         &self.receivers
@@ -288,7 +366,6 @@ impl ChannelSnapshot {
 impl ReceiverSnapshot {
     /// Returns what is noted of a receiver, with its number.
     fn new(receiver: &LiveReceiver) -> (u32, ReceiverSnapshot) {
-        let stamp = receiver.received_stamp;
         let snapshot = ReceiverSnapshot {
             name: String::new(),
             made_at: receiver.made_at,
@@ -296,8 +373,9 @@ impl ReceiverSnapshot {
             lag: 0,
             lost: receiver.lost,
             received_at: receiver.received_at,
-            received_call: Some(stamp).filter(|stamp| *stamp > 0),
+            received: NumberedCall::new(receiver.received_stamp),
             waits: None,
+            woken: None,
         };
         (receiver.number, snapshot)
     }
@@ -314,14 +392,23 @@ impl ReceiverSnapshot {
         (number, self)
     }
 
-    /// Adds the calls that wait to their receivers, which are in the order of their creation.
+    /// Adds the calls that wait to their receivers, which are in the order of their creation, and
+    /// those that were woken. Whether one waits is what the proved list says.
     fn add_waits(receivers: &mut [(u32, ReceiverSnapshot)], state: &ChannelState) {
-        for wait in state.waits.items().values() {
-            let nth = state.core.nth(wait.handle);
+        let calls = state.who_waits();
+        for call in calls.filter(|call| matches!(call.wait.awaited, Awaited::Value)) {
+            let nth = state.core.nth(call.wait.handle);
             let index = receivers.binary_search_by_key(&nth, |(number, _)| state.core.nth(*number));
-            if let (Ok(index), Awaited::Value) = (index, wait.awaited) {
-                receivers[index].1.waits = Some(Waits::new(wait, state.made_by.is_some()));
-            }
+            let Ok(index) = index else {
+                continue;
+            };
+            let receiver = &mut receivers[index].1;
+            let noted = match call.state {
+                WaitState::Waits => &mut receiver.waits,
+                WaitState::Woken => &mut receiver.woken,
+                WaitState::Held | WaitState::Blocks => continue,
+            };
+            *noted = Some(Waits::new(&call, state.made_by.is_some()));
         }
     }
 
@@ -363,11 +450,23 @@ impl ReceiverSnapshot {
     }
 
     /// Returns the stamp of that call in the journal of the channel's recorder, if it is recorded.
+    /// A dump of a flight recorder has this stamp too, and `yovanelum why` tells the call as
+    /// `67108867 in snapshots`.
     pub fn received_call(&self) -> Option<u64> {
-        self.received_call
+        Some(self.received?.stamp)
     }
 
-    /// Returns the method in which the receiver waits for a value, such as `recv`, if it waits.
+    /// Returns when that call was made, if a flight recorder knows it. A dump says the same.
+    ///
+    /// The recorder looks at the clock at one call of many, so it is the time between two others
+    /// that their stamps tell.
+    pub fn received_time(&self) -> Option<SystemTime> {
+        self.received?.time()
+    }
+
+    /// Returns the method in which the receiver waits for a value, such as `recv`, if it waits: the
+    /// channel as it is has nothing for it. Once a send or the drop of the last sender wakes it, it
+    /// waits no longer, and [`woken_in`](ReceiverSnapshot::woken_in) has the method.
     pub fn waits_in(&self) -> Option<&'static str> {
         self.waits.as_ref().map(|waits| waits.call)
     }
@@ -387,10 +486,42 @@ impl ReceiverSnapshot {
     pub fn waits_for(&self) -> Option<Duration> {
         self.waits.as_ref()?.waited
     }
+
+    /// Returns the method, such as `recv`, in which the receiver waited until it was woken, if it
+    /// has not gone on since.
+    ///
+    /// That lasts until its task is polled or its thread runs. Where it doesn't end, nobody polls
+    /// that task: it is forgotten, or what polls it is blocked.
+    ///
+    /// # Examples
+    ///
+    /// ```
+    /// use std::pin::pin;
+    /// use std::task::{Context, Waker};
+    /// use yovanelum::{ChannelSnapshot, broadcast};
+    ///
+    /// let (prices, mut chart) = broadcast::channel(2);
+    /// let mut recv = pin!(chart.recv());
+    /// assert!(recv.as_mut().poll(&mut Context::from_waker(Waker::noop())).is_pending());
+    /// prices.send(101).unwrap();
+    ///
+    /// let channel = ChannelSnapshot::of(&prices);
+    /// let chart = &channel.receivers()[0];
+    /// assert_eq!((chart.waits_in(), chart.woken_in(), chart.unread()), (None, Some("recv"), 1));
+    /// ```
+    pub fn woken_in(&self) -> Option<&'static str> {
+        self.woken.as_ref().map(|woken| woken.call)
+    }
+
+    /// Returns where that method was called.
+    pub fn woken_at(&self) -> Option<&'static Location<'static>> {
+        self.woken.as_ref()?.called_at
+    }
 }
 
 impl Waits {
-    fn new(wait: &Wait, is_of_recorder: bool) -> Waits {
+    fn new(call: &WaitNow, is_of_recorder: bool) -> Waits {
+        let wait = &call.wait;
         Waits {
             call: wait.method.name,
             called_at: wait.method.called_at,

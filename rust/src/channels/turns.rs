@@ -5,6 +5,8 @@
 use crate::channels::backend::Actor;
 use crate::channels::channel::CallSite;
 use crate::channels::recorder::NotedPanic;
+use crate::channels::timers::Timers;
+use crate::channels::whereabouts::PlaceNumber;
 use crate::run::operation::Operation;
 use crate::run::sidecar::Maker;
 use std::mem;
@@ -272,14 +274,21 @@ pub(crate) trait Tasks: Send + Sync {
     /// named future goes with that one.
     fn hold(&self, task: &mut Option<Arc<str>>, name: &str, context: &Context<'_>) -> bool;
 
+    /// Notes where this task waits, behind a poll of it.
+    fn waits(&self, task: &Arc<str>, at: PlaceNumber);
+
     /// Leaves the gate, since this task is dropped. Its drop makes its calls under its name.
     fn leave(&self, task: &Arc<str>);
+
+    /// Blocks the thread until its call of tokio's own, as `Mutex::lock`, is let go.
+    fn stand_at(&self, called: &'static str);
 }
 
 /// The run of a process that is explored.
 pub(crate) struct Explored {
     pub(crate) turns: Arc<dyn Turns>,
     pub(crate) tasks: Arc<dyn Tasks>,
+    pub(crate) timers: Arc<dyn Timers>,
 }
 
 static EXPLORED: OnceLock<Explored> = OnceLock::new();

@@ -4,7 +4,7 @@
 use crate::channels::backend::Actor;
 use crate::channels::budget;
 use crate::channels::channel::{
-    CallSite, LockedChannel, NO_SLOT, RecordedChannel, Slot, call_site,
+    CallSite, ListedCall, LockedChannel, NO_SLOT, RecordedChannel, Slot, call_site,
 };
 use crate::channels::handle::Kind;
 use crate::channels::lock::lock;
@@ -15,9 +15,9 @@ use crate::run::operation::Operation;
 use std::task::{Context, Poll, Waker};
 use std::time::{Duration, Instant};
 
-/// The number of a call among those that wait. Of two calls, the one that began first has the lower
-/// number.
-pub(crate) type WaitNumber = u64;
+/// The ticket of a call among those that are woken. Of two that wait for the same, the one that
+/// began first has the lower ticket.
+pub(crate) type WaitTicket = u64;
 
 impl WaitFor {
     /// The kind of the handles that wait for this.
@@ -74,6 +74,17 @@ pub(crate) enum Awaited {
     Lock(Option<Look>),
 }
 
+impl Awaited {
+    /// What wakes the call, unless it waits for a lock.
+    pub(crate) fn wait_for(self) -> Option<WaitFor> {
+        match self {
+            Awaited::Value => Some(WaitFor::Value),
+            Awaited::NoReceiver => Some(WaitFor::NoReceiver),
+            Awaited::Lock(_) => None,
+        }
+    }
+}
+
 /// A call that has begun to wait, as its channel lists it.
 #[derive(Clone, Copy)]
 pub(crate) struct Wait {
@@ -103,10 +114,8 @@ pub(crate) struct DroppedWait {
 /// The state of a call that waits between its polls.
 #[derive(Default)]
 pub(crate) struct Pending {
-    /// Its ticket, with which it is listed among those that are woken.
-    pub(crate) queued: Option<WaitNumber>,
-    /// Its number among the calls that wait.
-    pub(crate) listed: Option<WaitNumber>,
+    /// Where it is among the calls that wait.
+    pub(crate) listed: Option<ListedCall>,
     /// Its ticket before the gate of a replay.
     pub(crate) before_gate: Option<Ticket>,
 }
@@ -114,7 +123,7 @@ pub(crate) struct Pending {
 impl Pending {
     #[inline]
     pub(crate) fn is_waiting(&self) -> bool {
-        self.queued.is_some() || self.listed.is_some() || self.before_gate.is_some()
+        self.listed.is_some() || self.before_gate.is_some()
     }
 }
 
@@ -152,7 +161,7 @@ impl<'a> PolledCall<'a> {
     pub(crate) fn poll<R>(
         &mut self,
         context: &Context<'_>,
-        attempt: impl Fn(&mut LockedChannel<'_>) -> Poll<R>,
+        mut attempt: impl FnMut(&mut LockedChannel<'_>) -> Poll<R>,
     ) -> Poll<R> {
         if self.channel.gives_way(context) {
             return Poll::Pending;
@@ -170,25 +179,38 @@ impl<'a> PolledCall<'a> {
             if let Poll::Ready(result) = attempt(&mut channel) {
                 let removed = channel.state.end_wait(self.wait_for, &mut self.pending);
                 drop(channel);
-                drop(removed);
+                drop((removed, cloned));
                 budget::take_one(context);
                 return Poll::Ready(result);
             }
             channel.would_wait();
-            self.list(&mut channel, since);
+            let listed = self.list(&mut channel, since);
             let state = &mut *channel.state;
-            if state.wakes(self.wait_for, &self.pending, context.waker()) {
+            if state.wakes(self.wait_for, listed, context.waker()) {
                 return Poll::Pending;
             }
-            if let Some(waker) = cloned.take() {
-                let replaced = state.list_waker(self.wait_for, self.slot, &mut self.pending, waker);
-                drop(channel);
-                drop(replaced);
-                return Poll::Pending;
-            }
+            let has_waker = cloned.is_some();
+            let unwanted = state.list_waker(self.wait_for, listed, cloned.take());
             drop(channel);
-            cloned = Some(waker_of_call(&self.method, context));
+            drop(unwanted);
+            if has_waker {
+                return Poll::Pending;
+            }
+            cloned = self.set_waker(listed, waker_of_call(&self.method, context));
+            if cloned.is_none() {
+                return Poll::Pending;
+            }
         }
+    }
+
+    /// Has the call, which was listed before its waker was cloned, woken by that one. If a call has
+    /// taken it off the list meanwhile, it may go on, and the waker comes back.
+    #[inline]
+    fn set_waker(&self, listed: ListedCall, waker: Waker) -> Option<Waker> {
+        let mut state = lock(&self.channel.state);
+        let set = state.set_waker(self.wait_for, listed, waker);
+        drop(state);
+        set.err()
     }
 
     /// Waits for the turn of the call in a replay. It is listed among those that wait.
@@ -198,24 +220,33 @@ impl<'a> PolledCall<'a> {
         let (handle, word, called_at) = (self.handle, self.word, self.method.called_at);
         let ticket = &mut self.pending.before_gate;
         let passed = channel.poll_pass(handle, word, called_at, ticket, context);
-        if passed.is_pending() && self.pending.listed.is_none() {
-            let mut channel = channel.lock_unordered(handle, called_at);
-            let since = channel.clock();
-            self.list(&mut channel, since);
+        if passed.is_pending() {
+            self.hold();
         }
         passed
+    }
+
+    /// Lists the call as one that is held before the gate.
+    #[cold]
+    fn hold(&mut self) {
+        if let Some(listed) = self.pending.listed {
+            lock(&self.channel.state).note_held(self.wait_for, listed);
+            return;
+        }
+        let channel = self.channel;
+        let mut channel = channel.lock_unordered(self.handle, self.method.called_at);
+        let since = channel.clock();
+        self.list(&mut channel, since);
     }
 }
 
 impl PolledCall<'_> {
     /// Lists the call among those that wait since this time of the clock, unless it is there.
-    fn list(&mut self, channel: &mut LockedChannel<'_>, since: u64) {
-        if self.pending.listed.is_none() {
-            let (kind, awaited) = (self.wait_for.kind(), self.wait_for.awaited());
-            let slot = self.slot;
-            self.pending.listed =
-                Some(channel.list_wait((kind, slot), awaited, self.method, since));
-        }
+    fn list(&mut self, channel: &mut LockedChannel<'_>, since: u64) -> ListedCall {
+        let (kind, slot) = (self.wait_for.kind(), self.slot);
+        let (awaited, method) = (self.wait_for.awaited(), self.method);
+        let listed = &mut self.pending.listed;
+        *listed.get_or_insert_with(|| channel.list_wait((kind, slot), awaited, method, since))
     }
 }
 
@@ -223,7 +254,7 @@ impl PolledCall<'_> {
 /// dropped.
 pub(crate) struct BlockedCall<'a> {
     channel: &'a RecordedChannel,
-    listed: WaitNumber,
+    listed: ListedCall,
 }
 
 impl<'a> BlockedCall<'a> {
@@ -244,7 +275,7 @@ impl<'a> BlockedCall<'a> {
 
 impl Drop for BlockedCall<'_> {
     fn drop(&mut self) {
-        lock(&self.channel.state).waits.remove(self.listed);
+        lock(&self.channel.state).end_blocked(self.listed);
     }
 }
 

@@ -1,7 +1,7 @@
 //! Wakers of futures that no longer wait for a channel. Which of them a call wakes, and in which
 //! order, the proved list has said.
 
-use crate::channels::wait::WaitNumber;
+use crate::channels::wait::WaitTicket;
 use crate::core::shim::collections::BTreeMap;
 use std::mem;
 use std::panic::{self, AssertUnwindSafe};
@@ -12,22 +12,27 @@ use std::thread;
 #[must_use]
 #[derive(Default)]
 pub(crate) struct Wakers {
-    woken: Option<BTreeMap<WaitNumber, Waker>>,
+    woken: Option<BTreeMap<WaitTicket, Option<Waker>>>,
     // Of a future that is gone, so it is only dropped.
     gone: Option<Waker>,
 }
 
 impl Wakers {
     /// Returns those of the futures that a call has woken.
-    #[inline]
-    pub(crate) fn woken(woken: BTreeMap<WaitNumber, Waker>) -> Wakers {
+    pub(crate) fn woken(woken: BTreeMap<WaitTicket, Option<Waker>>) -> Wakers {
         Wakers {
             woken: Some(woken),
             gone: None,
         }
     }
 
-    /// The same, and one that is dropped with them.
+    /// Returns one that is only dropped.
+    #[inline]
+    pub(crate) fn gone(gone: Option<Waker>) -> Wakers {
+        Wakers { woken: None, gone }
+    }
+
+    /// Adds one that is dropped with them.
     pub(crate) fn and_gone(self, gone: Option<Waker>) -> Wakers {
         Wakers { gone, ..self }
     }
@@ -41,11 +46,11 @@ impl Wakers {
     }
 }
 
-/// Wakes them in order. If one panics, the others are woken all the same, and then the panic goes
-/// on. Within a panic that one goes on.
-fn wake_each(wakers: BTreeMap<WaitNumber, Waker>) {
+/// Wakes them in order. One whose waker isn't cloned yet looks again after that. If one panics, the
+/// others are woken all the same, and then the panic goes on. Within a panic that one goes on.
+fn wake_each(wakers: BTreeMap<WaitTicket, Option<Waker>>) {
     let mut panicked = None;
-    for waker in wakers.into_values() {
+    for waker in wakers.into_values().flatten() {
         let woken = panic::catch_unwind(AssertUnwindSafe(|| waker.wake()));
         panicked = panicked.or(woken.err());
     }

@@ -102,7 +102,7 @@ pub fn channel<T>(init: T) -> (Sender<T>, Receiver<T>) {
         panic!("yovanelum: no memory for a channel");
     };
     let recorded = RecordedChannel::add(core, 1, call_site());
-    let channel = TypedChannel::new(recorded, ValueLock::new(init));
+    let channel = TypedChannel::shared(recorded, init, ValueLock::store);
     if channel.has_text_of() {
         show_first(&channel);
     }
@@ -137,28 +137,29 @@ impl<T> WatchHandle<T> {
         let method = Method::called("borrow");
         let recorded = self.recorded();
         if recorded.is_quiet(self.number, Operation::Borrow, method.called_at) {
-            self.borrow_by(None, method, |_| ())
+            self.borrow_by(None, &method, |channel| self.has_changed(channel))
         } else {
             let permit = self.pass(Operation::Borrow, method.called_at);
-            self.borrow_by(permit, method, |channel| {
+            self.borrow_by(permit, &method, |channel| {
+                let has_changed = self.has_changed(channel);
                 channel.call(CoreChannel::watch_borrow);
+                has_changed
             })
         }
     }
 
     /// Returns a reference to the value. The call of this method that looks at it has its turn by
-    /// this permit. The value is locked before the channel, so the value that is returned is the
-    /// one that the call reads.
+    /// this permit, and says whether this is a receiver that had yet to see it. The value is locked
+    /// before the channel, so the value that is returned is the one that the call reads.
     fn borrow_by<'a>(
         &'a self,
         permit: Option<Permit<'a>>,
-        method: Method,
-        call: impl FnOnce(&mut LockedChannel<'_>),
+        method: &Method,
+        call: impl FnOnce(&mut LockedChannel<'_>) -> bool,
     ) -> Ref<'a, T> {
         let inner = self.read_value(method);
         let mut channel = self.lock_with(permit, method.called_at);
-        let has_changed = self.has_changed(&mut channel);
-        call(&mut channel);
+        let has_changed = call(&mut channel);
         let look = self.channel.values.looks.note(&mut channel);
         channel.unlock();
         Ref {
@@ -170,10 +171,10 @@ impl<T> WatchHandle<T> {
 
     /// Locks the value for this method, to look at it. A call that waits for the lock is listed
     /// meanwhile.
-    fn read_value(&self, method: Method) -> RwLockReadGuard<'_, T> {
+    fn read_value(&self, method: &Method) -> RwLockReadGuard<'_, T> {
         let values = &self.channel.values;
         values.try_read().unwrap_or_else(|| {
-            let _blocked = self.list_blocked(method);
+            let _blocked = self.list_blocked(*method);
             values.read()
         })
     }

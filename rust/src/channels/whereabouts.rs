@@ -9,10 +9,13 @@
 mod budget;
 mod frames;
 mod places;
+mod remembered;
 mod task;
+#[cfg(test)]
+mod tests;
 mod waker;
 
-pub(crate) use places::{KeptPlace, PlaceNumber, kept_place};
+pub(crate) use places::{KeptPlace, PlaceNumber, current_place, kept_place};
 pub(crate) use task::{PollNoted, TaskNoted, WokenFrom};
 pub(crate) use waker::{renews, waker_of_call};
 
@@ -28,7 +31,7 @@ use std::collections::{HashMap, VecDeque};
 use std::sync::atomic::{AtomicBool, AtomicUsize, Ordering};
 use std::sync::{Arc, Mutex, OnceLock, PoisonError, RwLock};
 use std::task::{Context, Poll};
-use std::time::Instant;
+use std::time::{Duration, Instant};
 use task::WatchedTask;
 
 /// How many tasks of a test are known. Those that ended first are forgotten for later ones.
@@ -43,6 +46,37 @@ const DRIFT: u128 = 1000;
 /// After how many nanoseconds it is looked whether it is.
 const BETWEEN_LOOKS: u64 = 1_000_000;
 
+/// For how many at first each poll looks. Where the clock is paused, much of a test is over soon.
+const FIRST_LOOKS: u64 = 5 * BETWEEN_LOOKS;
+
+/// The clock of the runtime, read at a time between two others since a test began. A busy machine
+/// may stop the thread that reads it.
+struct ClockThere {
+    clock: Instant,
+    after: Duration,
+    before: Duration,
+}
+
+impl ClockThere {
+    fn read(clock: fn() -> Instant, begun: Instant) -> ClockThere {
+        let after = begun.elapsed();
+        ClockThere {
+            clock: clock(),
+            after,
+            before: begun.elapsed(),
+        }
+    }
+
+    /// By how many microseconds more, or less, it went on since then than the machine's, at least.
+    fn drift_since(&self, first: &ClockThere) -> u128 {
+        let there = self.clock.saturating_duration_since(first.clock);
+        let least = self.after.saturating_sub(first.before);
+        let most = self.before.saturating_sub(first.after);
+        let drift = least.saturating_sub(there).max(there.saturating_sub(most));
+        drift.as_micros()
+    }
+}
+
 /// How many tests are alive.
 static TESTS: AtomicUsize = AtomicUsize::new(0);
 
@@ -55,7 +89,7 @@ fn is_any_test() -> bool {
 /// The clock of the runtime, which a test may pause.
 static CLOCK: OnceLock<fn() -> Instant> = OnceLock::new();
 
-/// Sets the function that reads the clock of the runtime.
+/// Sets the function that reads the clock of the runtime. It is called where a thread ends too.
 ///
 /// No part of what this crate promises: it is for the package that stands for tokio.
 #[doc(hidden)]
@@ -66,8 +100,8 @@ pub fn set_clock(now: fn() -> Instant) {
 /// What is seen of the tasks of a test.
 pub(crate) struct WatchedTest {
     begun: Instant,
-    // The clock of the runtime then, if it is told.
-    begun_there: Option<Instant>,
+    // The clock of the runtime, as it was read first, if it is told.
+    begun_there: Option<ClockThere>,
     recorder_id: u64,
     // Whether a journal or a search orders the calls, so that times are its own.
     is_ordered: bool,
@@ -77,6 +111,8 @@ pub(crate) struct WatchedTest {
     // How many guards of the test are alive.
     guards: AtomicUsize,
     tasks: Mutex<WatchedTasks>,
+    // Whether as many tasks are alive as are known at most.
+    is_full: AtomicBool,
     // How many polls are kept of all tasks.
     polls: AtomicUsize,
     budget: Budget,
@@ -133,8 +169,15 @@ impl Shared {
             watched.set_recorder(None);
             // Tasks have their wakers elsewhere, and what they wait for may outlive the test.
             let forgotten = std::mem::take(&mut *lock(&watched.tasks));
+            watched.is_full.store(false, Ordering::Relaxed);
             drop(forgotten);
         }
+    }
+
+    /// Whether a task was seen since the recorder was created.
+    pub(crate) fn has_seen_tasks(&self) -> bool {
+        let watched = self.watched.get();
+        watched.is_some_and(|watched| lock(&watched.tasks).next > 0)
     }
 
     /// Returns what was seen of the tasks of the test up to now, if anything was.
@@ -160,12 +203,13 @@ impl WatchedTest {
     fn new(recorder_id: u64, begun: Instant, is_ordered: bool) -> WatchedTest {
         WatchedTest {
             begun,
-            begun_there: CLOCK.get().map(|clock| clock()),
+            begun_there: CLOCK.get().map(|clock| ClockThere::read(*clock, begun)),
             recorder_id,
             is_ordered,
             recorder: RwLock::new(None),
             guards: AtomicUsize::new(0),
             tasks: Mutex::default(),
+            is_full: AtomicBool::new(false),
             polls: AtomicUsize::new(0),
             budget: Budget::default(),
             unknown_since: AtomicU64::new(u64::MAX),
@@ -198,18 +242,18 @@ impl WatchedTest {
     /// Looks whether the clock of the runtime is paused. It must not be called within a wake, where
     /// the runtime may have locked its clock.
     fn look_at_clock(&self) {
-        let (Some(clock), Some(begun_there)) = (CLOCK.get(), self.begun_there) else {
+        let (Some(clock), Some(first)) = (CLOCK.get(), &self.begun_there) else {
             return;
         };
-        let there = clock().saturating_duration_since(begun_there);
-        if there.abs_diff(self.begun.elapsed()).as_micros() > DRIFT {
+        if ClockThere::read(*clock, self.begun).drift_since(first) > DRIFT {
             self.is_paused.store(true, Ordering::Relaxed);
         }
     }
 
     /// The same, if the last look isn't a short time ago.
     fn look_at_clock_at(&self, now: u64) {
-        if now.saturating_sub(self.looked.load(Ordering::Relaxed)) > BETWEEN_LOOKS {
+        let since = now.saturating_sub(self.looked.load(Ordering::Relaxed));
+        if since > BETWEEN_LOOKS || now < FIRST_LOOKS {
             self.looked.store(now, Ordering::Relaxed);
             self.look_at_clock();
         }
@@ -224,8 +268,9 @@ impl WatchedTest {
         let mut tasks = lock(&self.tasks);
         let forgotten = match tasks.by_number.len() {
             MOST_TASKS.. => {
-                let first = tasks.ended.pop_front()?;
-                tasks.by_number.remove(&first)
+                let first = tasks.ended.pop_front();
+                self.is_full.store(first.is_none(), Ordering::Relaxed);
+                tasks.by_number.remove(&first?)
             }
             _ => None,
         };
@@ -243,6 +288,7 @@ impl WatchedTest {
         let mut tasks = lock(&self.tasks);
         if tasks.by_number.contains_key(&number) {
             tasks.ended.push_back(number);
+            self.is_full.store(false, Ordering::Relaxed);
         }
     }
 
@@ -262,14 +308,72 @@ fn current() -> Option<Arc<WatchedTest>> {
     watched.last().map(|_| watched.clone())
 }
 
-/// Where a task, or a future with a name, keeps what is seen of it.
+/// Where a task, a future with a name, or one that a thread is blocked on keeps what is seen of its
+/// polls.
+///
+/// No part of what this crate promises: it is public for the package that stands for tokio.
+#[doc(hidden)]
 #[derive(Default)]
-pub(crate) struct BlockedSlot(Option<Arc<WatchedTask>>);
+pub struct SeenPolls(Seeing);
 
-impl BlockedSlot {
+/// What is seen of a task.
+#[derive(Default)]
+enum Seeing {
+    /// Nothing, as far as is known.
+    #[default]
+    Nothing,
+    /// Nothing, as long as so many others are alive in its test.
+    TooMany(Arc<WatchedTest>),
+    Task(Arc<WatchedTask>),
+}
+
+impl Seeing {
+    /// That of a task of this test.
+    fn of(test: Arc<WatchedTest>, name: impl FnOnce() -> Arc<str>) -> Seeing {
+        let is_full = test.is_full.load(Ordering::Relaxed);
+        let added = (!is_full).then(|| test.add(name(), waker::innermost()));
+        added.flatten().map_or(Seeing::TooMany(test), Seeing::Task)
+    }
+}
+
+impl SeenPolls {
+    /// Returns where it has waited since its last poll, as far as that is known.
+    pub(crate) fn waits_at(&self) -> Option<PlaceNumber> {
+        self.task()?.waits_at()
+    }
+
+    /// Drops its future by this function. Whom that wakes, its end does, and not that of a task
+    /// which ended before on this thread.
+    pub(crate) fn drop_future(&self, drop: impl FnOnce()) {
+        if is_any_test() {
+            waker::note_end(self.task().map(|task| task.number));
+        }
+        drop();
+    }
+
+    fn task(&self) -> Option<&Arc<WatchedTask>> {
+        match &self.0 {
+            Seeing::Task(task) => Some(task),
+            _ => None,
+        }
+    }
+
+    /// Returns the task, as soon as there is room for it in its test.
+    fn find(&mut self, name: impl FnOnce() -> Arc<str>) -> Option<&Arc<WatchedTask>> {
+        let may_be_new = match &self.0 {
+            Seeing::TooMany(test) => !test.is_full.load(Ordering::Relaxed),
+            Seeing::Nothing => true,
+            Seeing::Task(_) => false,
+        };
+        if may_be_new {
+            self.0 = current().map_or(Seeing::Nothing, |test| Seeing::of(test, name));
+        }
+        self.task()
+    }
+
     /// Polls a task by this function, as the caller that is current.
     #[inline]
-    pub(crate) fn poll<T>(
+    pub(crate) fn poll_task<T>(
         &mut self,
         context: &mut Context<'_>,
         poll: impl FnOnce(&mut Context<'_>) -> Poll<T>,
@@ -277,11 +381,10 @@ impl BlockedSlot {
         if !is_any_test() {
             return poll(context);
         }
-        if self.0.is_none() {
+        if matches!(self.0, Seeing::Nothing) {
             waker::bind_outer();
-            self.0 = current().and_then(|it| it.add(name_of_task(), waker::innermost()));
         }
-        match &self.0 {
+        match self.find(name_of_task) {
             Some(task) => waker::poll(Some(task), context, poll).0,
             None => poll(context),
         }
@@ -289,57 +392,34 @@ impl BlockedSlot {
 
     /// Polls the future that a thread is blocked on. Its first poll may create the recorder.
     #[inline]
-    fn poll_blocked<T>(
+    pub fn poll_blocked<T>(
         &mut self,
         context: &mut Context<'_>,
         poll: impl FnOnce(&mut Context<'_>) -> Poll<T>,
     ) -> Poll<T> {
-        if self.0.is_none() {
-            self.0 = current().and_then(|it| it.add(name_of_blocked(), waker::innermost()));
-        }
-        let polled;
-        let is_new = self.0.is_none();
-        let task;
-        (polled, task) = waker::poll(self.0.as_ref(), context, poll);
-        if is_new {
-            self.0 = task;
+        let task = self.find(name_of_blocked);
+        let is_new = task.is_none();
+        let (polled, task) = waker::poll(task, context, poll);
+        if let Some(task) = task.filter(|_| is_new) {
+            self.0 = Seeing::Task(task);
         }
         polled
     }
 }
 
-impl Drop for BlockedSlot {
+impl Drop for SeenPolls {
     fn drop(&mut self) {
-        if let Some(task) = &self.0 {
+        if let Some(task) = self.task() {
             task.is_over();
             // One that is aborted ends without a poll.
-            waker::note_end(task.number);
+            waker::note_end(Some(task.number));
         }
     }
 }
 
-/// What the package that stands for tokio has of a future that a thread is blocked on.
-///
-/// No part of what this crate promises.
-#[doc(hidden)]
-#[derive(Default)]
-pub struct BlockedTask(BlockedSlot);
-
-impl BlockedTask {
-    /// Polls it.
-    #[inline]
-    pub fn poll<T>(
-        &mut self,
-        context: &mut Context<'_>,
-        poll: impl FnOnce(&mut Context<'_>) -> Poll<T>,
-    ) -> Poll<T> {
-        self.0.poll_blocked(context, poll)
-    }
-}
-
-impl std::fmt::Debug for BlockedTask {
+impl std::fmt::Debug for SeenPolls {
     fn fmt(&self, f: &mut std::fmt::Formatter<'_>) -> std::fmt::Result {
-        f.debug_struct("BlockedTask").finish_non_exhaustive()
+        f.debug_struct("SeenPolls").finish_non_exhaustive()
     }
 }
 

@@ -1,12 +1,14 @@
 //! The recorder that each test gets by itself under `cargo yovanelum`, if it creates none: named by
-//! the test's path, created at its first channel or task, and told of only where the test fails.
+//! the test's path, created at its first channel or task, and reported only where the test fails.
 //!
 //! The package that stands for tokio begins it, and says when the thread of the test blocks on a
 //! future. A panic that leaves that future ends the test, as it ends a recorder that is the first
 //! variable of the future, and so does an `Err` that it returns. A test that blocks on none ends at
 //! its panic, after the hook of the harness has printed that. It may be caught: then the test goes
-//! on, and its last panic counts.
+//! on, and its last panic counts. Any other `Err` is reported when the thread ends: if the harness
+//! was seen to write a channel's error, or if the process runs this test alone and fails.
 
+mod at_exit;
 mod passed;
 mod returned;
 mod tests_of_program;
@@ -15,8 +17,8 @@ pub(super) use passed::PASSED;
 
 use super::exploring::RUNS;
 use super::for_test::SaveOnPanic;
-use super::test_run::TestRun;
-use crate::channels::actors::current_task;
+use super::test_run::{self, TestRun};
+use crate::channels::actors::{self, current_task};
 use crate::channels::recorder::{
     ForTests, REPLAY, Recorder, TestOfThread, give_to_tests, test_of_this_thread,
 };
@@ -80,8 +82,17 @@ impl ForTests for OfCommand {
             saved = saved.watchdog(report_after());
         }
         saved.test.note_automatic();
-        Some((recorder, Box::new(saved)))
+        Some((recorder, Box::new(at_exit::KeptTest::new(saved))))
     }
+
+    fn error_is_written(&self, kept: &mut dyn Any, text: String) {
+        returned::note_written(kept, text);
+    }
+}
+
+/// Returns what is kept of a test, which this crate has given.
+fn saved_of(kept: &dyn Any) -> Option<&SaveOnPanic> {
+    kept.downcast_ref::<at_exit::KeptTest>()?.saved()
 }
 
 /// Whether the test with this path is to have a recorder: all are, unless the command names some.
@@ -109,6 +120,10 @@ fn only_test() -> Option<&'static str> {
     only.as_deref()
 }
 
+fn is_set(variable: &str) -> bool {
+    env::var_os(variable).is_some()
+}
+
 fn report_after() -> Duration {
     let given = env::var(REPORT_AFTER).ok();
     let seconds = given.and_then(|seconds| seconds.parse().ok());
@@ -132,7 +147,6 @@ fn begin() {
     give_to_tests(&OfCommand);
     let test = test_of_this_thread();
     // The order of a replay, and the one that is explored, begin with the first task.
-    let is_set = |variable: &str| env::var_os(variable).is_some();
     if let Some(test) = test.filter(|_| is_set(REPLAY) || is_set(RUNS) || explored().is_some()) {
         test.begin();
     }
@@ -169,7 +183,11 @@ impl Drop for BlockedOn {
             count.get()
         });
         if left == Ok(0) && (self.has_failed || thread::panicking()) {
+            let other = test_of_this_thread().and_then(|test| line_on_other(&test));
             end_of_this_thread();
+            if let Some(line) = other {
+                eprint!("{line}");
+            }
         }
     }
 }
@@ -180,6 +198,18 @@ fn end_of_this_thread() {
     if let Some(test) = test_of_this_thread() {
         test.thread().end();
     }
+}
+
+/// Returns a line on the channel that this thread, which runs a test, has used last, if another
+/// test has created it. Its calls are in the recorder of that.
+fn line_on_other(test: &TestOfThread) -> Option<String> {
+    let name = test.thread().name();
+    let other = test_run::name_of(actors::last_recorder()?)?;
+    (other != name && !test.thread().is_over()).then(|| {
+        format!(
+            "yovanelum: the channel that {name} used last is recorded for {other}, which created it: a static is created once in a process. Alone, `cargo yovanelum test -- {name} --exact` records it\n"
+        )
+    })
 }
 
 /// Ends the recorder that a test has by itself without a word, since it creates its own.
@@ -203,10 +233,11 @@ pub(super) fn report_in_hook() {
     if !is_under_command() || is_in_future || current_task().is_some() {
         return;
     }
-    let test = test_of_this_thread();
-    let lines = test.as_ref().and_then(lines_on);
-    if let Some(lines) = lines {
-        eprint!("{lines}");
+    if let Some(test) = test_of_this_thread() {
+        let (lines, other) = (lines_on(&test), line_on_other(&test));
+        for line in [lines, other].into_iter().flatten() {
+            eprint!("{line}");
+        }
     }
 }
 
@@ -214,7 +245,9 @@ pub(super) fn report_in_hook() {
 /// for.
 fn lines_on(test: &TestOfThread) -> Option<String> {
     test.thread().with_kept(|kept| {
-        let saved = kept.downcast_ref::<SaveOnPanic>()?;
+        let saved = saved_of(kept)?;
+        // Another thread may have panicked before, which this one has joined.
+        saved.test.note_unwinding();
         let lines = saved.test.write_before_process_ends()?;
         saved.test.note_report();
         Some(lines)

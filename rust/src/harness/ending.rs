@@ -117,7 +117,12 @@ impl TestRun {
         if names.window.is_some() {
             return String::new();
         }
-        // A run that followed a schedule has none of its own: the journal beside that has.
+        self.line_of_replay(path)
+    }
+
+    /// Returns the line for the journal with this path. A run that followed a schedule has none of
+    /// its own: the journal beside that has.
+    pub(super) fn line_of_replay(&self, path: &Path) -> String {
         let followed = explore::followed().map(|schedule| schedule.with_extension("journal"));
         replay_line::of(followed.as_deref().unwrap_or(path), self)
     }

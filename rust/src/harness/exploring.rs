@@ -4,18 +4,25 @@
 //! its program again and again, by the orders that `search.rs` hands out, each as a process
 //! (`process.rs`). The explorer of the schedule is what chooses there. `answer.rs` says whether a
 //! run met the condition that is looked for, `shorten.rs` looks for fewer switches, `race.rs` says
-//! what they are, `counts.rs` what was tried, and `failing_order.rs` what failed.
+//! what they are, `exchange.rs` for the two steps that make the difference to a run of `passed.rs`,
+//! `tries.rs` runs an order again, `counts.rs` has what was tried and `covered.rs` how much of all
+//! that is, `failing_order.rs` has what failed, and `reporting.rs` reports it.
 
 mod answer;
 mod counts;
+mod covered;
+mod exchange;
 mod failing_order;
+mod passed;
 mod process;
 mod progress;
 mod race;
+mod reporting;
 mod search;
 mod session;
 mod settings;
 mod shorten;
+mod tries;
 
 pub(super) use answer::answer;
 pub(super) use settings::RUNS;

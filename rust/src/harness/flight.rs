@@ -17,13 +17,14 @@ impl Recorder {
     /// does not grow.
     ///
     /// It is for a service that runs for weeks. Of each channel it keeps at least
-    /// `calls_per_channel` calls, and at most twice as many, or all while there are fewer. Of a
-    /// broadcast channel whose capacity is over four times that number, it keeps at least a fourth
-    /// of the capacity. A call takes some 50 bytes. When something happens, a
+    /// `calls_per_channel` calls, and at most twice as many, or all while there are fewer. Where a
+    /// channel retains many values or has many handles, it keeps more: up to as many calls as
+    /// values and two for each handle, and never over 196,604 for that. Each time that half as many
+    /// calls were made, these are copied. A call takes some 50 bytes. When something happens, a
     /// [dump](Recorder::dump_to) writes them as a journal, which `ttd`, the page and
     /// `yovanelum why` open as any other. See [`guide::flight`](crate::guide::flight).
     ///
-    /// At least 1 call is kept, and at most 524,288 to 1,048,576 are. 10,000 calls are right for
+    /// At least 2 calls are kept, and at most 524,288 to 1,048,576 are. 10,000 calls are right for
     /// most services.
     ///
     /// Of the [limits](Recorder#limits), the one of entries does not end its recording. It gives

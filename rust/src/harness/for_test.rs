@@ -6,9 +6,10 @@ use super::nothing::likely_cause;
 use super::panic_hook;
 use super::test_run::{TestRun, name_of_thread};
 use super::watchdog::Watchdog;
+use super::whereabouts;
 use crate::channels::recorder::{Entered, Recorder};
 use crate::channels::turns::explored;
-use crate::schedule::explore::{self, TestReport};
+use crate::schedule::explore::{self, TestReport, WaitingTask};
 use std::fmt;
 use std::ops::Deref;
 use std::panic::{AssertUnwindSafe, Location};
@@ -121,14 +122,15 @@ impl Recorder {
         let test = TestRun::start(&self.0, name, thread);
         self.0.begin_watching();
         let (recorder, of_run) = (Arc::downgrade(&self.0), Arc::downgrade(&test));
-        let report_hung = move || {
+        let report_hung = move |waiting: &[WaitingTask]| {
             if let Some(test) = of_run.upgrade() {
-                test.report_hung();
+                test.report_hung(waiting);
             }
         };
         let report = TestReport {
             hung: Box::new(report_hung),
             why_nothing: likely_cause,
+            name_place: whereabouts::named_place,
         };
         explore::watch(recorder, report);
         SaveOnPanic {

@@ -9,6 +9,7 @@
 
 mod cargo;
 mod folder;
+mod options;
 mod target;
 
 pub use cargo::set_patch;

@@ -152,11 +152,11 @@ impl Recorder {
     /// began to.
     ///
     /// These are the calls of `recv`, `blocking_recv`, `changed`, `wait_for` and `closed` that were
-    /// polled and have not ended. A future that was dropped no longer waits, one that was woken
-    /// does until it is polled again, and one that was forgotten until its receiver goes on. A
-    /// call on a watch that blocks its thread is among them, such as a `send` while a
-    /// [`Ref`](crate::watch::Ref) is alive. This can be called at any time, also while other
-    /// threads use the channels.
+    /// polled and have not ended. Those that were woken and have not gone on since are among them,
+    /// and say so by [`is_woken`](Waiting::is_woken): all others wait. A future that was dropped is
+    /// gone, and one that was forgotten stays until its receiver goes on. A call on a watch that
+    /// blocks its thread is among them, such as a `send` while a [`Ref`](crate::watch::Ref) is
+    /// alive. This can be called at any time, also while other threads use the channels.
     ///
     /// # Examples
     ///

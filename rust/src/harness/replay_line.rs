@@ -114,7 +114,7 @@ fn assigned(name: &str, value: &str) -> String {
 }
 
 /// Returns a text as one word of a shell.
-fn quoted(text: &str) -> String {
+pub(super) fn quoted(text: &str) -> String {
     let is_plain = |c: char| c.is_alphanumeric() || "_-./:=,+@%".contains(c);
     if !text.is_empty() && text.chars().all(is_plain) {
         text.to_string()

@@ -7,7 +7,8 @@ use super::test_run::TestRun;
 use super::window_names;
 use super::windows::{Calls, Most, Windows};
 use crate::channels::backend::{Actor, Cut, CutFault};
-use crate::channels::channel::{CallSites, ChannelState, KeptChannel};
+use crate::channels::channel::{CallSites, ChannelState, KeptChannel, WaitNow};
+use crate::channels::channel_lock::ChannelLock;
 use crate::channels::lock::{lock, try_lock_for};
 use crate::channels::recorder::{Shared, WaitThen, Waiting, Why};
 use crate::channels::wait::{Awaited, Wait};
@@ -20,8 +21,8 @@ use crate::run::sorting::sort_by_key;
 use std::collections::HashMap;
 use std::panic::Location;
 use std::path::Path;
+use std::sync::Arc;
 use std::sync::atomic::{AtomicUsize, Ordering};
-use std::sync::{Arc, Mutex};
 use std::time::Duration;
 use std::{env, fs, io, ptr};
 
@@ -37,7 +38,7 @@ const IS_OFF: &str = "this recorder is off, so it records nothing. `Recorder::ne
 /// no part of it.
 pub(crate) struct RunSoFar<'a> {
     shared: &'a Shared,
-    channels: Vec<Arc<Mutex<ChannelState>>>,
+    channels: Vec<Arc<ChannelLock<ChannelState>>>,
     // How many channels are left out, since they are locked.
     locked: u64,
     _reading: Reading<'a>,
@@ -170,7 +171,7 @@ impl RunSoFar<'_> {
     /// Returns the number of this channel with its copy, if the run has it.
     pub(super) fn number_of(
         &self,
-        (channel, kept): (Arc<Mutex<ChannelState>>, KeptChannel),
+        (channel, kept): (Arc<ChannelLock<ChannelState>>, KeptChannel),
     ) -> Option<(usize, KeptChannel)> {
         let number = self
             .channels
@@ -220,20 +221,21 @@ impl RunSoFar<'_> {
         copied.into_run(why, most)
     }
 
-    /// Returns the calls that wait, in the order in which they began to.
+    /// Returns the calls that wait, or were woken and have not gone on, in the order in which they
+    /// began to wait.
     pub(super) fn waiting(&self) -> Vec<Waiting> {
         let mut waiting = vec![];
         for (number, channel) in (0..).zip(&self.channels) {
             let state = lock(channel);
             // Under the channel's lock: an actor has its name before it waits.
-            let actors = if state.waits.is_empty() {
+            let mut calls = state.who_waits().peekable();
+            if calls.peek().is_none() {
                 continue;
-            } else {
-                lock(&self.shared.actors).names()
-            };
+            }
+            // Under the channel's lock: an actor has its name before it waits.
+            let actors = lock(&self.shared.actors).names();
             let name = |actor: Actor| actors[actor.number() as usize].clone();
-            let waits = state.waits.items().values();
-            waiting.extend(waits.map(|wait| Waiting::new(wait, number, &state, name)));
+            waiting.extend(calls.map(|call| Waiting::new(&call, number, &state, name)));
         }
         sort_by_key(&mut waiting, Waiting::since);
         waiting
@@ -267,7 +269,8 @@ impl RunSoFar<'_> {
         })
     }
 
-    /// Adds those of these calls that don't wait any more. A window has no such ones.
+    /// Adds those of these calls that don't wait any more, and says of the others what they did
+    /// then: unwinding may have woken them since. A window has no such ones.
     fn add_waits_at_failure(&self, names: &mut Sidecar, waits: &[WaitThen]) {
         if names.window.is_some() {
             return;
@@ -277,11 +280,12 @@ impl RunSoFar<'_> {
             let Some((number, channel)) = channels.find(|(_, it)| then.is_on(it)) else {
                 continue;
             };
-            let handle = lock(channel).core.nth(then.wait.handle);
+            let handle = lock(channel).core.nth(then.then.wait.handle);
             let index_of = |at: &Location<'_>| names.index_of(&at.into());
-            let call = waiting_call(&then.wait, (number, handle), index_of);
-            if !names.waiting.contains(&call) {
-                names.waited_at_failure.push(call);
+            let call = waiting_call(&then.then, (number, handle), index_of);
+            match names.waiting.iter_mut().find(|it| it.is_same(&call)) {
+                Some(waiting) => waiting.woken = call.woken,
+                None => names.waited_at_failure.push(call),
             }
         }
         sort_by_key(&mut names.waited_at_failure, |wait| wait.since);
@@ -292,7 +296,7 @@ impl RunSoFar<'_> {
     fn add_last_drops(&self, names: &mut Sidecar) {
         let here = env::current_dir().unwrap_or_default();
         for (number, channel) in (0..).zip(&self.channels) {
-            let drops = lock(channel).last_drops.clone();
+            let drops = lock(channel).seldom().last_drops.clone();
             let frames = drops.stacks().map(|stack| stacks::first_own(stack?, &here));
             for (which, frame) in (0..).zip(frames) {
                 let Some(Frame { function, location }) = frame else {
@@ -422,8 +426,13 @@ impl Indexes {
     }
 
     /// Describes a call that waits, by the numbers of its channel and handle.
-    pub(super) fn waiting(&mut self, wait: &Wait, channel: u64, handle: u64) -> WaitingCall {
-        waiting_call(wait, (channel, handle), |location| self.of(location))
+    pub(super) fn waiting(&mut self, call: &WaitNow, channel: u64, handle: u64) -> WaitingCall {
+        waiting_call(call, (channel, handle), |location| self.of(location))
+    }
+
+    /// Describes a call that began to wait, and no longer does, in the same way.
+    fn begun(&mut self, wait: &Wait, channel: u64, handle: u64) -> WaitingCall {
+        begun_call(wait, (channel, handle), |location| self.of(location))
     }
 
     fn of_all(&mut self, sites: &CallSites) -> Vec<Option<usize>> {
@@ -437,6 +446,18 @@ impl Indexes {
 /// Describes a call that waits, by the numbers of its channel and handle, and the indexes of its
 /// locations.
 fn waiting_call(
+    call: &WaitNow,
+    (channel, handle): (u64, u64),
+    index_of: impl FnMut(&'static Location<'static>) -> usize,
+) -> WaitingCall {
+    WaitingCall {
+        woken: call.is_woken(),
+        ..begun_call(&call.wait, (channel, handle), index_of)
+    }
+}
+
+/// Describes a call that began to wait, of which it isn't known whether it was woken.
+fn begun_call(
     wait: &Wait,
     (channel, handle): (u64, u64),
     mut index_of: impl FnMut(&'static Location<'static>) -> usize,
@@ -456,6 +477,7 @@ fn waiting_call(
         since: wait.since,
         location: wait.method.called_at.map(index_of),
         held_by,
+        woken: None,
         until: None,
         waited: None,
     }
@@ -463,11 +485,12 @@ fn waiting_call(
 
 /// Adds what a channel knows of itself, under its number. A table that would be empty is left out.
 fn add_channel(names: &mut Sidecar, indexes: &mut Indexes, number: u64, channel: &ChannelState) {
-    if let Some(name) = &channel.name {
+    let seldom = channel.seldom();
+    if let Some(name) = &seldom.name {
         names.channels.insert(number, name.clone());
     }
-    if !channel.texts.is_empty() {
-        names.values.insert(number, channel.texts.clone());
+    if !seldom.texts.is_empty() {
+        names.values.insert(number, seldom.texts.clone());
     }
     let handle_names = channel.names_in_journal();
     if !handle_names.is_empty() {
@@ -476,11 +499,11 @@ fn add_channel(names: &mut Sidecar, indexes: &mut Indexes, number: u64, channel:
     if let Some(maker) = &channel.made_by {
         names.matching.made_by.insert(number, maker.clone());
     }
-    if !channel.waited.is_empty() {
-        names.matching.waited.insert(number, channel.waited.clone());
+    if !seldom.waited.is_empty() {
+        names.matching.waited.insert(number, seldom.waited.clone());
     }
-    if !channel.cancelled.is_empty() {
-        let cancelled = channel.cancelled.clone();
+    if !seldom.cancelled.is_empty() {
+        let cancelled = seldom.cancelled.clone();
         names.matching.cancelled.insert(number, cancelled);
     }
     let made = indexes.of_all(&channel.locations.of_handles);
@@ -492,13 +515,14 @@ fn add_channel(names: &mut Sidecar, indexes: &mut Indexes, number: u64, channel:
     if !calls.is_empty() {
         names.calls.insert(number, calls);
     }
-    let waits = channel.waits.items().values();
-    let waits = waits.map(|wait| indexes.waiting(wait, number, channel.core.nth(wait.handle)));
+    let nth = |wait: &Wait| channel.core.nth(wait.handle);
+    let waits = channel.who_waits();
+    let waits = waits.map(|call| indexes.waiting(&call, number, nth(&call.wait)));
     names.waiting.extend(waits);
-    let dropped = channel.dropped_waits.iter().map(|dropped| WaitingCall {
+    let dropped = seldom.dropped_waits.iter().map(|dropped| WaitingCall {
         until: Some(dropped.until),
         waited: dropped.waited.map(|waited| waited.as_micros() as u64),
-        ..indexes.waiting(&dropped.wait, number, channel.core.nth(dropped.wait.handle))
+        ..indexes.begun(&dropped.wait, number, nth(&dropped.wait))
     });
     names.dropped_waits.extend(dropped);
 }

@@ -29,6 +29,30 @@ pub(super) fn first_own(stack: &Backtrace, here: &Path) -> Option<Frame> {
     first_of_text(&stack.to_string(), |file| here.join(file).is_file(), here)
 }
 
+/// What functions begin with that write the error which a test returns. The first is std's alone.
+/// The other, as the function below, is compiled with the test, and may be inlined there.
+const WRITE_RETURNED: [&str; 2] = [
+    "std::io::stdio::attempt_print_to_stderr",
+    "test::assert_test_result",
+];
+
+/// What the name of the third of them ends with.
+const REPORTS_RETURNED: &str = " as std::process::Termination>::report";
+
+/// Whether this stack is of the harness, which writes the error that a test has returned.
+pub(super) fn is_of_returned(stack: &Backtrace) -> bool {
+    is_text_of_returned(&stack.to_string())
+}
+
+fn is_text_of_returned(text: &str) -> bool {
+    let functions = text.lines().filter_map(|line| line.split_once(": "));
+    let mut names = functions.map(|(_, name)| without_hash(name));
+    names.any(|name| {
+        let begins = WRITE_RETURNED.iter().any(|begin| name.starts_with(begin));
+        begins || name.ends_with(REPORTS_RETURNED)
+    })
+}
+
 /// Returns the first frame of a printed stack that is the program's own. `is_there` says whether a
 /// file is below the folder.
 fn first_of_text(text: &str, is_there: impl Fn(&str) -> bool, here: &Path) -> Option<Frame> {
@@ -115,6 +139,45 @@ fn location(place: &str, here: &Path) -> Option<SourceLocation> {
 #[cfg(test)]
 mod tests {
     use super::*;
+    use std::cell::Cell;
+    use std::fmt;
+    use std::process::Termination;
+
+    /// What it notes is whether a returned error is written.
+    struct WhoWrites<'a>(&'a Cell<bool>);
+
+    impl fmt::Debug for WhoWrites<'_> {
+        fn fmt(&self, _: &mut fmt::Formatter<'_>) -> fmt::Result {
+            self.0.set(is_of_returned(&Backtrace::force_capture()));
+            Ok(())
+        }
+    }
+
+    #[test]
+    fn what_writes_a_returned_error_is_told_from_others() {
+        let is_returned = Cell::new(true);
+        assert_eq!(format!("{:?}", Some(WhoWrites(&is_returned))), "Some()");
+        assert!(!is_returned.get());
+        // So does the harness with what a test returns.
+        let _ = Err::<(), _>(WhoWrites(&is_returned)).report();
+        assert!(is_returned.get());
+    }
+
+    #[test]
+    fn functions_that_write_a_returned_error_are_known_by_their_names() {
+        let report = "as std::process::Termination>::report::h0123456789abcdef";
+        for (frame, is_it) in [
+            (&*format!("<core::result::Result<(), E> {report}"), true),
+            ("std::io::stdio::attempt_print_to_stderr", true),
+            ("test::assert_test_result", true),
+            ("test::assert_test_result::<Result<(), shop::Lost>>", true),
+            ("shop::test::assert_test_result", false),
+            ("shop::report", false),
+        ] {
+            let text = format!("   7: {frame}\n");
+            assert_eq!(is_text_of_returned(&text), is_it, "{frame}");
+        }
+    }
 
     const STACK: &str = "\
    0: yovanelum::channels::channel::locked::LockedChannel::drop_handle

@@ -3,6 +3,7 @@
 
 use super::files;
 use super::seen_panic::SeenPanic;
+use super::stacks;
 use crate::channels::actors;
 use crate::channels::atomic::AtomicU64;
 use crate::channels::cut::start_of;
@@ -13,6 +14,7 @@ use crate::channels::recorder::{
 use crate::harness::program::{Program, is_patched};
 use crate::run::numbered::NumberMap;
 use crate::run::sidecar::{Returned, Sidecar, SourceLocation, TestId};
+use std::backtrace::Backtrace;
 use std::collections::BTreeMap;
 use std::fmt;
 use std::panic::{Location, PanicHookInfo};
@@ -54,8 +56,16 @@ pub(super) struct TestRun {
 #[derive(Debug)]
 struct NotedError {
     text: String,
-    location: SourceLocation,
+    location: Option<SourceLocation>,
     since: u64,
+}
+
+/// An error of a channel whose text was written on the thread of the test, with who wrote it.
+#[derive(Debug)]
+struct WrittenError {
+    text: String,
+    since: u64,
+    stack: Backtrace,
 }
 
 #[derive(Debug, Default)]
@@ -64,6 +74,8 @@ struct Noted {
     // The index of the panic that unwinds the recorder.
     ended_by: Option<usize>,
     returned: Option<NotedError>,
+    // The last one.
+    written: Option<WrittenError>,
 }
 
 /// How many tests each thread has begun, by the names of the thread and of the test.
@@ -162,11 +174,13 @@ impl TestRun {
         }
     }
 
-    /// Notes that the last panic of this thread unwinds the recorder of the test, but for those
-    /// that a drop has caught. A task that panics on a thread is caught by its runtime, and so it
-    /// is no panic of that thread.
+    /// Notes that the last panic of this thread ends the test, but for those that a drop has
+    /// caught. A task that panics on a thread is caught by its runtime, and so it is no panic of
+    /// that thread.
     pub(super) fn note_unwinding(&self) {
-        let mut noted = lock(&self.noted);
+        let Some(mut noted) = try_lock_for(&self.noted, PATIENCE) else {
+            return;
+        };
         let may_unwind = |it: &SeenPanic| it.is_of_this_thread() && !it.is_caught_in_drop();
         let last = noted.panics.iter().rposition(may_unwind);
         noted.ended_by = last.or_else(|| {
@@ -191,10 +205,51 @@ impl TestRun {
             let text = start_of(&format!("{error:?}"), MOST_BYTES).to_string();
             lock(&self.noted).returned = Some(NotedError {
                 text,
-                location: location.into(),
+                location: Some(location.into()),
                 since,
             });
         }
+    }
+
+    /// Notes the text of a channel's error, which is written on the thread of the test. This thread
+    /// may be at anything then, and so nothing is waited for.
+    pub(super) fn note_written(&self, text: String, stack: Backtrace) {
+        let since = self.recorder.upgrade().map(|recorder| recorder.last());
+        if let (Some(since), Ok(mut noted)) = (since, self.noted.try_lock()) {
+            noted.written = Some(WrittenError { text, since, stack });
+        }
+    }
+
+    /// Takes the error whose text was written last for what the test has returned, if the harness
+    /// wrote it.
+    pub(super) fn take_written(&self) {
+        let written = lock(&self.noted).written.take();
+        let of_harness = written.filter(|it| stacks::is_of_returned(&it.stack));
+        if let Some(WrittenError { text, since, .. }) = of_harness {
+            lock(&self.noted).returned = Some(NotedError {
+                text,
+                location: None,
+                since,
+            });
+        }
+    }
+
+    /// Records that the test has returned an `Err`, whose text and location aren't known.
+    pub(super) fn note_unknown_error(&self) {
+        let since = self
+            .recorder
+            .upgrade()
+            .map_or(0, |recorder| recorder.last());
+        lock(&self.noted).returned = Some(NotedError {
+            text: String::new(),
+            location: None,
+            since,
+        });
+    }
+
+    /// Whether the test has failed, as far as is known before its end.
+    pub(super) fn has_ended_badly(&self) -> bool {
+        self.has_returned_error() || self.is_reported()
     }
 
     /// Notes that the test has its recorder by itself.
@@ -262,7 +317,7 @@ impl TestRun {
         if let Some(error) = &noted.returned {
             names.ending.returned = Some(Returned {
                 text: error.text.clone(),
-                location: Some(names.index_of(&error.location)),
+                location: error.location.as_ref().map(|at| names.index_of(at)),
                 since: error.since,
             });
         }

@@ -2,12 +2,12 @@
 
 use super::ending::{self, WRITING};
 use super::for_test::{ForTest, SaveOnPanic};
-use super::replay_line;
 use super::saved::Saved;
 use super::test_run::TestRun;
 use crate::channels::lock::lock;
 use crate::channels::recorder::Shared;
 use crate::run::report::Report;
+use crate::schedule::explore::WaitingTask;
 use std::io::{self, Write};
 use std::sync::Arc;
 use std::sync::mpsc::{self, Receiver, RecvTimeoutError, Sender, TryRecvError};
@@ -68,11 +68,25 @@ impl Watched {
 
 impl TestRun {
     /// Writes the files of this test, which hangs in a run that is explored, and says who waits.
-    pub(super) fn report_hung(&self) {
+    pub(super) fn report_hung(&self, waiting: &[WaitingTask]) {
+        const WHY: &str = "hangs: everybody waits forever";
         let _writing = lock(&WRITING);
-        if let Some(recorder) = self.recorder.upgrade() {
-            self.report_waiting(&recorder, "hangs: everybody waits forever", true);
+        let Some(recorder) = self.recorder.upgrade() else {
+            return;
+        };
+        if !recorder.has_nothing() {
+            return self.report_waiting(&recorder, WHY, true);
         }
+        // Without a channel there are no files, and no call waits.
+        let mut lines = format!("yovanelum: {} {WHY}\n", self.name);
+        for WaitingTask { what, at, who } in waiting {
+            let at = at.as_ref().map(|(file, line)| format!(", {file}:{line}"));
+            let at = at.unwrap_or_default();
+            lines.push_str(&format!(
+                "yovanelum: still waiting: {who} in `{what}`{at}\n"
+            ));
+        }
+        let _ = io::stderr().write_all(lines.as_bytes());
     }
 
     /// Writes the files of this test, and then to standard error. `eprintln` would keep the lines
@@ -81,6 +95,7 @@ impl TestRun {
         let path = self.journal_path(recorder);
         let run = recorder.run();
         let (mut told, mut pending) = (String::new(), vec![]);
+        let mut waiting = run.waiting();
         let saved = run.saved(Some(self)).and_then(|saved| {
             let Saved {
                 run,
@@ -88,6 +103,9 @@ impl TestRun {
                 mut names,
             } = saved;
             names.ending.hangs = true;
+            waiting
+                .iter_mut()
+                .for_each(|call| call.name_channel(&names));
             let report = Report::on(&run, &names);
             let call = report.as_ref().map_or(0, Report::call);
             told = report.as_ref().map(Report::told_lines).unwrap_or_default();
@@ -109,7 +127,6 @@ impl TestRun {
                 path.display()
             ),
         };
-        let waiting = run.waiting();
         for call in waiting.iter().take(LISTED) {
             lines.push_str(&format!("yovanelum: still waiting: {call}\n"));
         }
@@ -127,7 +144,7 @@ impl TestRun {
         if let Ok((path, look)) = saved {
             lines.push_str(&format!("look: {look}\n"));
             if is_replayed {
-                lines.push_str(&replay_line::of(&path, self));
+                lines.push_str(&self.line_of_replay(&path));
             }
         }
         // If standard error is closed, nobody reads it.

@@ -1,6 +1,9 @@
 //! What was seen of the tasks of a test, as the names have it: the places of stacks are named now.
 
+mod functions;
 mod stack;
+#[cfg(test)]
+mod tests;
 
 use super::saved::RunSoFar;
 use crate::channels::whereabouts::{
@@ -11,8 +14,11 @@ use crate::run::sidecar::{
     SeenPlace, SeenPoll, SeenTask, SeenWake, Sidecar, SourceLocation, TasksSeen, WokenBy,
     is_downloaded,
 };
+use crate::schedule::explore::NamedPlace;
+use functions::ReadSources;
 use stack::{PrintedStack, StackFrame};
-use std::collections::HashMap;
+use std::backtrace::Backtrace;
+use std::collections::{HashMap, HashSet};
 use std::env;
 use std::path::{Path, PathBuf};
 
@@ -27,6 +33,10 @@ const DRIVERS: [&str; 4] = [
     "tokio::signal::",
 ];
 
+/// What those have that wait for a function of tokio's own on a thread that may block. Such a
+/// function isn't a task that is seen.
+const THREADS: [&str; 3] = ["tokio::fs::", "tokio::io::blocking::", "tokio::net::addr::"];
+
 /// What those have by which a task that ends wakes who joins it.
 const ENDS: [&str; 2] = ["::wake_join", "::harness::"];
 
@@ -40,16 +50,8 @@ impl RunSoFar<'_> {
         let paths = names.locations.iter().map(|at| Path::new(&at.file));
         let root = Program::this().root_of(&paths.collect::<Vec<_>>());
         let here = env::current_dir().unwrap_or_default();
-        let mut naming = PlaceNaming {
-            root: root.unwrap_or_else(|| here.clone()),
-            here,
-            names,
-            tasks: HashMap::new(),
-            threads: HashMap::new(),
-            places: HashMap::new(),
-            by: HashMap::new(),
-            made: vec![],
-        };
+        let root = root.unwrap_or_else(|| here.clone());
+        let mut naming = PlaceNaming::new(names, root, here);
         naming.tasks = (0..)
             .zip(&noted.tasks)
             .map(|(index, it)| (it.number, index))
@@ -64,6 +66,21 @@ impl RunSoFar<'_> {
         };
         seen.raise(raised);
         names.tasks_seen = Some(seen);
+    }
+}
+
+/// Says what a task waits for at a place, and where that is in the source.
+pub(super) fn named_place(number: PlaceNumber) -> NamedPlace {
+    let mut names = Sidecar::default();
+    let here = env::current_dir().unwrap_or_default();
+    let root = Program::this().root_of(&[]).unwrap_or_else(|| here.clone());
+    let mut naming = PlaceNaming::new(&mut names, root, here);
+    let index = naming.place(number);
+    let place = naming.made.swap_remove(index);
+    let location = place.location.and_then(|index| names.locations.get(index));
+    NamedPlace {
+        what: Some(place.what).filter(|what| !what.is_empty()),
+        at: location.map(|at| (at.file.clone(), at.line)),
     }
 }
 
@@ -98,10 +115,32 @@ struct PlaceNaming<'a> {
     threads: HashMap<usize, u64>,
     places: HashMap<PlaceNumber, usize>,
     by: HashMap<PlaceNumber, Waking>,
+    // Those where a task waits for a thread of the runtime.
+    of_threads: HashSet<PlaceNumber>,
     made: Vec<SeenPlace>,
+    sources: ReadSources,
 }
 
-impl PlaceNaming<'_> {
+impl<'a> PlaceNaming<'a> {
+    fn new(names: &'a mut Sidecar, root: PathBuf, here: PathBuf) -> PlaceNaming<'a> {
+        PlaceNaming {
+            root,
+            here,
+            names,
+            tasks: HashMap::new(),
+            threads: HashMap::new(),
+            places: HashMap::new(),
+            by: HashMap::new(),
+            of_threads: HashSet::new(),
+            made: vec![],
+            sources: ReadSources::default(),
+        }
+    }
+
+    fn printed(&mut self, stack: &Backtrace) -> PrintedStack {
+        PrintedStack::of(stack, &mut self.sources, &self.here)
+    }
+
     fn task(&mut self, task: &TaskNoted) -> SeenTask {
         // One that has made no call yet may have the name of an actor.
         let named = self
@@ -181,13 +220,15 @@ impl PlaceNaming<'_> {
             }
             WokenFrom::Thread(thread, ended) => (thread, ended),
         };
-        let kept_at = kept_at.map(|place| self.place(place));
-        let joins = kept_at.is_some_and(|place| self.made[place].what == "JoinHandle");
+        let index = kept_at.map(|place| self.place(place));
+        let joins = index.is_some_and(|place| self.made[place].what == "JoinHandle");
+        let is_of_thread = kept_at.is_some_and(|place| self.of_threads.contains(&place));
         let waking = self.waking(place);
         let ended = ended.and_then(|number| self.index_of(number));
         match (waking, ended, thread) {
             (Waking::Timer, ..) => WokenBy::Timer,
             (Waking::Driver, ..) => WokenBy::Runtime,
+            _ if is_of_thread => WokenBy::Runtime,
             (_, Some(task), _) if joins || waking == Waking::End => WokenBy::End(task),
             (_, None, Some(name)) if waking == Waking::Other => WokenBy::Thread(name.to_string()),
             _ => WokenBy::Somebody,
@@ -205,7 +246,7 @@ impl PlaceNaming<'_> {
         }
         let waking = match kept_place(place) {
             Some(KeptPlace::Stack(stack)) => {
-                let stack = PrintedStack::of(&stack);
+                let stack = self.printed(&stack);
                 // The innermost: a runtime waits for sockets within its timers.
                 let mut said = stack.frames.iter().map(|frame| Waking::of(&frame.function));
                 said.find(|it| *it != Waking::Other)
@@ -230,7 +271,13 @@ impl PlaceNaming<'_> {
                 function: None,
                 is_own: true,
             },
-            Some(KeptPlace::Stack(stack)) => self.place_of(&PrintedStack::of(&stack)),
+            Some(KeptPlace::Stack(stack)) => {
+                let stack = self.printed(&stack);
+                if waits_for_thread(&stack) {
+                    self.of_threads.insert(number);
+                }
+                self.place_of(&stack)
+            }
         };
         // Several stacks may say the same.
         let known = self.made.iter().position(|other| *other == place);
@@ -244,7 +291,10 @@ impl PlaceNaming<'_> {
 
     fn place_of(&mut self, stack: &PrintedStack) -> SeenPlace {
         let frames = stack.of_poll();
-        let own = frames.iter().position(|frame| self.is_own(frame));
+        // A library that was compiled without lines has a program's name. A line tells more.
+        let has_line = |frame: &StackFrame| frame.place.is_some() && self.is_own(frame);
+        let own = frames.iter().position(has_line);
+        let own = own.or_else(|| frames.iter().position(|frame| self.is_own(frame)));
         let (above, own) = match own {
             Some(own) => (&frames[..own], Some(&frames[own])),
             None => (frames, None),
@@ -293,6 +343,12 @@ impl PlaceNaming<'_> {
             column: *column,
         })
     }
+}
+
+/// Whether a task that has kept its waker in this stack waits for a function of tokio's own.
+fn waits_for_thread(stack: &PrintedStack) -> bool {
+    let has = |frame: &StackFrame| THREADS.iter().any(|word| frame.function.contains(word));
+    stack.of_poll().iter().any(has)
 }
 
 /// The folders of this crate's own sources, and of those over it.

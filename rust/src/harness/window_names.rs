@@ -3,9 +3,8 @@
 use super::saved::Indexes;
 use super::windows::{MadeWindow, Windows};
 use crate::channels::backend::{Actor, ENTRIES_AT_MOST, LEAD, Window};
-use crate::channels::channel::NotedChannel;
+use crate::channels::channel::{NotedChannel, WaitNow};
 use crate::channels::recorder::Why;
-use crate::channels::wait::Wait;
 use crate::core::lists::{collected, reserved};
 use crate::core::source::rw_law::NoMemory;
 use crate::run::clock::{Moment, wall};
@@ -143,9 +142,14 @@ fn real_handles(channel: &NotedChannel, window: &Window) -> Result<Vec<Option<u3
 
 /// Returns the times of calls, in the order of their stamps.
 fn times(channels: &[NotedChannel]) -> Result<Vec<Moment>, NoMemory> {
-    let moments = channels.iter().map(|channel| &channel.calls.moments);
-    let count = moments.clone().map(Vec::len).sum();
-    let mut moments = collected(count, moments.flatten().copied())?;
+    let calls = channels.iter().map(|channel| &channel.calls);
+    let count = calls.clone().map(|calls| calls.moments.len() + 1).sum();
+    let noted = calls
+        .clone()
+        .flat_map(|calls| calls.moments.iter().copied());
+    let waits = calls.filter_map(|calls| calls.last_wait);
+    let mut moments = collected(count, noted.chain(waits))?;
+    // Those that were noted come first, and are what snapshots have told.
     sort_by_key(&mut moments, |moment| moment.stamp);
     moments.dedup_by_key(|moment| moment.stamp);
     Ok(moments)
@@ -285,9 +289,9 @@ impl Adding<'_> {
 
     fn add_waits(&mut self) {
         let waits = self.channel.waits.iter();
-        let waits = waits.filter_map(|(handle, wait): &(u32, Wait)| {
+        let waits = waits.filter_map(|(handle, call): &(u32, WaitNow)| {
             let handle = self.window.number(*handle)?;
-            Some(self.indexes.waiting(wait, self.number, handle.into()))
+            Some(self.indexes.waiting(call, self.number, handle.into()))
         });
         self.names.waiting.extend(waits);
     }

@@ -32,6 +32,7 @@ mod tests;
 mod times;
 mod traffic;
 mod unknown;
+mod unnamed;
 mod value;
 pub(crate) mod visible;
 mod waits;
@@ -39,12 +40,14 @@ mod watches;
 mod window;
 #[cfg(test)]
 mod windowed;
+mod woken;
 
 pub(crate) use fact::{Fact, FactStep, Level, Role};
 pub(crate) use failed::Failed;
 pub(crate) use lateness::PendingTask;
 pub(crate) use rest::Rest;
 pub(crate) use saying::Saying;
+pub(crate) use unnamed::UnnamedChannel;
 pub(crate) use waits::WaitAtEnd;
 
 use crate::run::journal::{Findings, FoundTraffic, Loss, Run, RunEntry, TextFault};
@@ -84,13 +87,17 @@ impl Context<'_> {
         end.text(self.names)
     }
 
-    /// Returns who panicked.
+    /// Returns who panicked, or returned an error: the thread of the test, which may have made no
+    /// call.
     fn who_panicked(&self, at: &FailureAt) -> String {
         if let Some(actor) = at.actor {
             return self.naming.actor(actor);
         }
-        let panic = at.panic.map(|panic| &self.names.ending.panics[panic]);
-        let who = panic.and_then(|panic| panic.who.as_deref());
+        let test = || Some(self.names.ending.test.as_ref()?.thread.as_str());
+        let who = match at.panic {
+            Some(panic) => self.names.ending.panics[panic].who.as_deref(),
+            None => test().filter(|thread| !thread.is_empty()),
+        };
         who.map_or("a thread".to_string(), visible::name)
     }
 
@@ -107,6 +114,18 @@ impl Context<'_> {
             place if place == self.history.lead => window::BEFORE.to_string(),
             place => visible::call(place),
         }
+    }
+
+    /// Returns a call by its number, and in a dump by the one that snapshots have for it, with the
+    /// time: `call 3`, or `call 3 (67108867 in snapshots, at 03:12:41.120 UTC)`.
+    fn call_in_snapshots(&self, place: u64) -> String {
+        let (call, stamp) = (visible::call(place), self.run.entry(place).stamp);
+        let Some(number) = window::number_in_snapshots(self.names, stamp) else {
+            return call;
+        };
+        let at = self.times.at(stamp);
+        let at = at.map_or(String::new(), |time| format!(", {}", time.clock()));
+        format!("{call} ({number} in snapshots{at})")
     }
 
     /// Returns the call with this number as a step of a fact, with what was called and what there
@@ -128,27 +147,34 @@ impl Context<'_> {
             (true, false) => format!("cancelled {said}"),
             (false, _) => said,
         };
-        let time = self.times.at(entry.stamp);
-        let said = match time {
-            Some(time) if said.is_empty() => time.text(),
-            Some(time) => format!("{said}; {}", time.text()),
-            None => said,
-        };
         FactStep {
             place,
             role,
             actor: Some(entry.actor.into()),
             location: location.cloned(),
             made: self.naming.made(entry.channel, entry.handle).cloned(),
-            time,
+            time: self.times.at(entry.stamp),
+            stamp: window::number_in_snapshots(self.names, entry.stamp),
             cells: [
                 visible::call(place),
                 what,
                 self.naming.actor(entry.actor.into()),
                 location.map_or(String::new(), visible::line_of),
-                said,
+                self.with_time(said, entry.stamp),
             ],
         }
+    }
+
+    /// Returns what there is to say of the call with this stamp, and in a dump when it was made,
+    /// and by which number snapshots call it.
+    fn with_time(&self, said: String, stamp: u64) -> String {
+        let time = self.times.at(stamp).map(|time| time.text());
+        let number = window::number_in_snapshots(self.names, stamp);
+        let number = number.map(|number| format!("{number} in snapshots"));
+        let known: Vec<_> = time.into_iter().chain(number).collect();
+        let known = (!known.is_empty()).then(|| known.join(", "));
+        let said = (!said.is_empty()).then_some(said);
+        said.into_iter().chain(known).collect::<Vec<_>>().join("; ")
     }
 
     /// Returns the call with this number as a step, as it was called.
@@ -213,6 +239,7 @@ impl Context<'_> {
             location: None,
             made: None,
             time: None,
+            stamp: None,
             cells: [
                 window::BEFORE.to_string(),
                 what,
@@ -234,6 +261,7 @@ impl Context<'_> {
             location: location.cloned(),
             made: None,
             time: None,
+            stamp: None,
             cells: [
                 failure.name.to_string(),
                 what,
@@ -254,6 +282,7 @@ impl Context<'_> {
             location: None,
             made: None,
             time: None,
+            stamp: None,
             cells: ["the end".to_string(), what, nothing(), nothing(), said],
         }
     }
@@ -304,9 +333,7 @@ impl Account {
     ///
     /// Returns the first fault of the text, if it is not a journal.
     pub(crate) fn read(text: &[u8], names: &Sidecar) -> Result<Account, TextFault> {
-        let mut run = Run::read(text)?;
-        run.tell_callers_apart(&names.callers);
-        Account::on(&run, names)
+        Account::on(&Run::with_callers(text, names)?, names)
     }
 
     /// Makes the account of a run.

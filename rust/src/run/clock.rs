@@ -6,6 +6,8 @@ use std::time::{Instant, SystemTime, UNIX_EPOCH};
 /// entries, and these have the stamps from 1 on. So a call has the same stamp in each dump.
 pub(crate) const FLIGHT_START: u64 = 64 * 1_048_576;
 
+pub(crate) const MILLISECONDS_OF_DAY: u64 = 86_400_000;
+
 /// When a call was made.
 #[derive(Clone, Copy, Debug, PartialEq, Eq)]
 pub(crate) struct Moment {
@@ -15,6 +17,34 @@ pub(crate) struct Moment {
     pub(crate) wall: u64,
     /// Microseconds since the recorder was created, of a clock that only goes on.
     pub(crate) since_start: u64,
+}
+
+/// Returns when the call with this stamp was made, if there are times around it, which are in the
+/// order of their stamps. Between two of them it is by the stamps.
+pub(crate) fn moment_among(known: &[Moment], stamp: u64) -> Option<Moment> {
+    let next = known.partition_point(|time| time.stamp < stamp);
+    let after = known.get(next)?;
+    let before = if after.stamp == stamp {
+        after
+    } else {
+        known.get(next.checked_sub(1)?)?
+    };
+    let part = (stamp - before.stamp, after.stamp - before.stamp);
+    Some(Moment {
+        stamp,
+        wall: between(before.wall, after.wall, part),
+        since_start: between(before.since_start, after.since_start, part),
+    })
+}
+
+/// Returns the number that is `part` of `whole` parts of the way from `from` to `to`.
+fn between(from: u64, to: u64, (part, whole): (u64, u64)) -> u64 {
+    if whole == 0 {
+        return from;
+    }
+    let way = i128::from(to) - i128::from(from);
+    let number = i128::from(from) + way * i128::from(part) / i128::from(whole);
+    u64::try_from(number).unwrap_or(0)
 }
 
 /// Returns the time. WebAssembly without an operating system has no clock, and would panic.
@@ -40,6 +70,33 @@ pub(crate) fn date(days: u64) -> (u64, u64, u64) {
     let is_next = month >= 10;
     let month = if is_next { month - 9 } else { month + 3 };
     (400 * era + year + u64::from(is_next), month, day)
+}
+
+/// Returns a time of the wall clock in UTC, as `2026-11-29 03:12:45.120`.
+pub(crate) fn utc(wall: u64) -> String {
+    let (date, clock) = date_and_clock(wall);
+    format!("{date} {clock}")
+}
+
+/// As `2026-11-29T03:12:45.120Z`.
+pub(crate) fn iso(wall: u64) -> String {
+    let (date, clock) = date_and_clock(wall);
+    format!("{date}T{clock}Z")
+}
+
+/// Returns the date and the time of day in UTC at `wall` milliseconds since 1970.
+pub(crate) fn date_and_clock(wall: u64) -> (String, String) {
+    let (days, time) = (wall / MILLISECONDS_OF_DAY, wall % MILLISECONDS_OF_DAY);
+    let (year, month, day) = date(days);
+    let date = format!("{year:04}-{month:02}-{day:02}");
+    let (seconds, rest) = (time / 1_000, time % 1_000);
+    let (minutes, second) = (seconds / 60, seconds % 60);
+    let clock = format!(
+        "{:02}:{:02}:{second:02}.{rest:03}",
+        minutes / 60,
+        minutes % 60
+    );
+    (date, clock)
 }
 
 /// The clocks of a recorder.
@@ -82,6 +139,28 @@ pub(crate) struct Clock {
 impl Clock {
     pub(crate) fn new(times: Times) -> Clock {
         Clock { times, read: None }
+    }
+
+    /// The clocks of the recorder.
+    pub(crate) fn times(&self) -> Times {
+        self.times
+    }
+
+    /// Returns the time of a call with this stamp, which was made at this instant, if there is a
+    /// clock.
+    pub(crate) fn moment_at(&self, stamp: u64, instant: Instant) -> Option<Moment> {
+        let now = self.times.moment(stamp)?;
+        let since_start = instant.saturating_duration_since(self.times.0?);
+        let since_start = since_start.as_micros() as u64;
+        // After the last reading it is computed as those of calls are, so that none is before them.
+        let read = self.read.filter(|read| read.since_start <= since_start);
+        let computed = read.and_then(|read| read.computed_wall(since_start));
+        let ago = now.since_start.saturating_sub(since_start);
+        Some(Moment {
+            wall: computed.unwrap_or_else(|| now.wall.saturating_sub(ago.div_ceil(1000))),
+            since_start,
+            ..now
+        })
     }
 
     /// Returns the time of a call with this stamp, which is made now, if there is a clock.

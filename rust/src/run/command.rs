@@ -5,7 +5,7 @@
 
 use crate::run::account::against::Against;
 use crate::run::journal::{self, Run, TextFault};
-use crate::run::report::{self, Report, at_call, page};
+use crate::run::report::{self, Report, at_call, page, terminal};
 use crate::run::sidecar::{Sidecar, read_whole};
 use std::ffi::OsString;
 use std::fs;
@@ -13,15 +13,17 @@ use std::io::{IsTerminal, Write};
 use std::path::{Path, PathBuf};
 
 const USAGE: &str = "\
-Usage: yovanelum why JOURNAL [--sources | --json | --sarif]
+Usage: yovanelum why JOURNAL [--sources | --json | --sarif] [--no-picture]
        yovanelum why JOURNAL --against JOURNAL [--json]
        yovanelum open JOURNAL
        yovanelum dap [--port PORT]
 
 why    prints what was found in the run of a journal: which values were lost, by whom and where
+       In a terminal it draws what receivers had to receive after each call
        --sources prints with it the lines of the sources that haven't been written since
        --json    prints it as an object
        --sarif   prints it as a SARIF log
+       --no-picture        draws nothing
        --against JOURNAL   prints instead which call differs first from another run of the same test
 open   writes the page with the run inside beside the journal, and prints its name
 dap    starts the debug adapter for an editor, the program yovanelum-dap
@@ -29,9 +31,13 @@ dap    starts the debug adapter for an editor, the program yovanelum-dap
 Sidecar are read from the file NAME.names beside NAME.journal.
 ";
 
+/// The option by which nothing is drawn.
+const NO_PICTURE: &str = "--no-picture";
+
 /// What the command line asks for.
 enum Verb {
-    Why(Form),
+    /// Whether it draws in a terminal comes with it.
+    Why(Form, bool),
     Against(PathBuf, Form),
     Open,
     Help,
@@ -116,7 +122,7 @@ pub fn command(
 ) -> u8 {
     let done = parsed(words).and_then(|(verb, path)| match verb {
         Verb::Help => write_to(out, USAGE),
-        Verb::Why(form) => why(&Journal::read(&path)?, form, out, told),
+        Verb::Why(form, draws) => why(&Journal::read(&path)?, (form, draws), out, told),
         Verb::Against(other, form) => {
             let runs = [Journal::read(&path)?, Journal::read(&other)?];
             against(&runs, form, out, told)
@@ -139,6 +145,7 @@ pub fn command(
 fn parsed(words: impl IntoIterator<Item = OsString>) -> Result<(Verb, PathBuf), Fault> {
     let usage = |line: &str| Err(Fault::Usage(line.to_string()));
     let (mut form, mut other, mut names) = (Form::Lines, None, vec![]);
+    let mut draws = true;
     let mut words = words.into_iter();
     while let Some(word) = words.next() {
         match word.to_str() {
@@ -149,6 +156,7 @@ fn parsed(words: impl IntoIterator<Item = OsString>) -> Result<(Verb, PathBuf), 
                 }
                 form = Form::of_option(flag).unwrap_or(form);
             }
+            Some(NO_PICTURE) => draws = false,
             Some("--against") if other.is_some() => return usage("give one `--against`"),
             Some("--against") => match words.next() {
                 Some(path) => other = Some(PathBuf::from(path)),
@@ -170,8 +178,9 @@ fn parsed(words: impl IntoIterator<Item = OsString>) -> Result<(Verb, PathBuf), 
         }
         (Some("why"), form) => match other {
             Some(other) => Verb::Against(other, form),
-            None => Verb::Why(form),
+            None => Verb::Why(form, draws),
         },
+        (Some("open"), _) if !draws => return usage("`--no-picture` is an option of `why`"),
         (Some("open"), _) if other.is_some() => return usage("`--against` is an option of `why`"),
         (Some("open"), Form::Lines) => Verb::Open,
         (Some("open"), form) => {
@@ -251,11 +260,13 @@ impl Journal {
 /// Prints the account of the run.
 fn why(
     journal: &Journal,
-    form: Form,
+    (form, draws): (Form, bool),
     out: &mut (impl Write + IsTerminal),
     told: &mut impl Write,
 ) -> Result<(), Fault> {
-    let Found { mut report, .. } = journal.find(told)?;
+    let (names, _) = journal.names(told);
+    let run = Run::with_callers(&journal.text, &names).map_err(Fault::Refused)?;
+    let mut report = Report::on(&run, &names).map_err(Fault::Refused)?;
     match form {
         Form::Lines => {}
         Form::Sources => {
@@ -276,7 +287,12 @@ fn why(
         )
     };
     let has_colours = report::has_colours(out);
-    write_to(out, &report.text(Some(look), has_colours))
+    if !out.is_terminal() {
+        return write_to(out, &report.text(Some(look), has_colours));
+    }
+    let drawn = draws.then_some((&run, &names));
+    let terminal = (terminal::width(), has_colours);
+    write_to(out, &report.text_for_terminal(look, terminal, drawn))
 }
 
 /// Prints which call of the first run differs first from the second one.
@@ -307,7 +323,7 @@ fn open(
     let Found { report, names } = journal.find(told)?;
     let name = journal.path.file_name().unwrap_or_default();
     let path = journal.page();
-    let written = Sidecar::with_account(&names, &report.account().to_json())
+    let written = Sidecar::with_account(&names, &report.account().to_json_for_page())
         .and_then(|names| {
             page::with_run(
                 page,

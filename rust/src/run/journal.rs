@@ -23,6 +23,7 @@ use crate::core::source::rw_text;
 use crate::run::numbered::NumberMap;
 use crate::run::operation::Operation;
 use crate::run::reply::Reply;
+use crate::run::sidecar::Sidecar;
 
 /// A run: the channels of a recorder and their calls, or those of a journal text that was read.
 pub(crate) struct Run(pub(crate) rw_recording::Run<u64>, OwnActors);
@@ -57,7 +58,7 @@ impl RunEntry {
             handle: call.handle(),
             word: Operation::of(call),
             value: value_of(call),
-            reply: Reply::of(&Ok(entry.reply)),
+            reply: Reply::of(Ok(entry.reply)),
         }
     }
 }
@@ -97,6 +98,17 @@ impl Run {
     /// Returns the first fault of the text, as `ttd check` does.
     pub(crate) fn read(text: &[u8]) -> Result<Run, TextFault> {
         rw_text::read(Global, text).map(Run::of)
+    }
+
+    /// The same, with callers told apart as the names beside the journal do.
+    ///
+    /// # Errors
+    ///
+    /// Returns the first fault of the text, as `ttd check` does.
+    pub(crate) fn with_callers(text: &[u8], names: &Sidecar) -> Result<Run, TextFault> {
+        let mut run = Run::read(text)?;
+        run.tell_callers_apart(&names.callers);
+        Ok(run)
     }
 
     /// Reads the run of a journal text that may be truncated. Returns also how many bytes its whole

@@ -6,40 +6,59 @@ use crate::core::source::rw_recording::{BReply, ChanReply, TakeFault, WReply};
 /// registers: its kind in one, and its number in another.
 #[derive(Clone, Copy, Debug, PartialEq, Eq)]
 pub(crate) enum Reply {
+    // A call tests by one comparison whether it leaves an entry: those that do are first.
     Sent(u64),
     NoReceivers(u64),
     Value(u64),
     Lagged(u64),
     Empty,
     Closed,
-    Waits,
     /// The number of a handle.
     New(u64),
     Dropped,
     Count(u64),
-    Unknown,
-    Gone,
-    WrongKind,
-    TooManyHandles,
     Stored,
     Old(u64),
     /// 1 for `true`, and 0 for `false`, as in [`Flag`](Reply::Flag).
     Told(u64),
     Flag(u64),
     Done,
+    NoSender,
+    Waits,
+    Unknown,
+    Gone,
+    WrongKind,
+    TooManyHandles,
     NoChannel,
     JournalFull,
     NoMemory,
-    NoSender,
 }
 
 impl Reply {
     /// Returns what a call returns that the core has made, or hasn't.
+    // The replies that calls have most often are tested first, and the others apart.
     #[inline(always)]
-    pub(crate) fn of(made: &Result<ChanReply<u64>, TakeFault>) -> Reply {
+    pub(crate) fn of(made: Result<ChanReply<u64>, TakeFault>) -> Reply {
+        match made {
+            Ok(ChanReply::B(BReply::Value(value)) | ChanReply::W(WReply::Value(value))) => {
+                Reply::Value(value)
+            }
+            Ok(ChanReply::B(BReply::Sent(receivers))) => Reply::Sent(receivers),
+            Ok(ChanReply::B(BReply::Empty)) => Reply::Empty,
+            Ok(ChanReply::W(WReply::Stored)) => Reply::Stored,
+            Ok(ChanReply::B(BReply::New(handle)) | ChanReply::W(WReply::New(handle))) => {
+                Reply::New(handle.into())
+            }
+            Ok(ChanReply::B(BReply::Dropped) | ChanReply::W(WReply::Dropped)) => Reply::Dropped,
+            other => Reply::of_other(other),
+        }
+    }
+
+    #[inline(never)]
+    fn of_other(made: Result<ChanReply<u64>, TakeFault>) -> Reply {
         use ChanReply::{B, NoChannel, W};
 
-        match *made {
+        match made {
             Ok(B(BReply::Sent(receivers))) => Reply::Sent(receivers),
             Ok(B(BReply::NoReceivers(value)) | W(WReply::NoReceivers(value))) => {
                 Reply::NoReceivers(value)
@@ -86,6 +105,12 @@ impl Reply {
             | Reply::Flag(number) => Some(number),
             _ => None,
         }
+    }
+
+    /// Whether the value that a watch was sent is the one that it stores from here on.
+    #[inline(always)]
+    pub(crate) fn says_stored(self) -> bool {
+        matches!(self, Reply::Stored | Reply::Old(_) | Reply::Told(_))
     }
 
     /// Whether a call that is recorded has left an entry, of which this is the reply.

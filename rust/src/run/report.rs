@@ -5,9 +5,12 @@ mod colours;
 pub(crate) mod page;
 mod sarif;
 mod source_lines;
+mod strips;
+pub(crate) mod terminal;
 #[cfg(test)]
 mod tests;
 mod workflow;
+mod wrapping;
 
 pub(crate) use sarif::sarif;
 
@@ -20,7 +23,9 @@ use source_lines::SourceLines;
 use std::env;
 use std::io::IsTerminal;
 use std::time::SystemTime;
+use strips::Strips;
 use workflow::Workflow;
+use wrapping::wrapped;
 
 /// How many calls that wait are told.
 const SHOWN_WAITS: usize = 3;
@@ -77,10 +82,37 @@ impl Report {
 
     /// Returns the text, with a last line that says where to look, if there is one.
     pub(crate) fn text(self, look: Option<String>, has_colours: bool) -> String {
+        self.text_with(look, Colours { has_colours }, None)
+    }
+
+    /// Returns the text for a terminal of this width: lines are broken there, and below each fact
+    /// its receivers are drawn, if the run is given, with its names.
+    pub(crate) fn text_for_terminal(
+        self,
+        look: String,
+        (width, has_colours): (usize, bool),
+        run: Option<(&Run, &Sidecar)>,
+    ) -> String {
         let colours = Colours { has_colours };
+        let strips = run.map(|(run, names)| Strips {
+            run,
+            names,
+            colours,
+            width,
+        });
+        wrapped(&self.text_with(Some(look), colours, strips), width)
+    }
+
+    fn text_with(
+        self,
+        look: Option<String>,
+        colours: Colours,
+        strips: Option<Strips<'_>>,
+    ) -> String {
         let mut lines = self.before_facts();
         for (level, fact) in self.told() {
             push_fact(&mut lines, (fact, level), colours, self.1.as_ref());
+            lines.extend(strips.iter().flat_map(|strips| strips.below(fact)));
         }
         lines.extend(self.after_facts(colours));
         lines.extend(self.commands());
@@ -214,8 +246,10 @@ fn arrow(location: &SourceLocation) -> String {
     format!("  --> {}:{line}:{column}", path(file))
 }
 
-/// Whether colours are written to this: if it is a terminal, and the variable `NO_COLOR` isn't set.
+/// Whether colours are written to this: if it is a terminal, unless the variable `NO_COLOR` is set,
+/// or `TERM` says that it has none.
 pub(crate) fn has_colours(out: &impl IsTerminal) -> bool {
     let is_unwanted = env::var_os("NO_COLOR").is_some_and(|value| !value.is_empty());
-    out.is_terminal() && !is_unwanted
+    let is_dumb = env::var_os("TERM").is_some_and(|value| value == "dumb");
+    out.is_terminal() && !is_unwanted && !is_dumb
 }

@@ -80,10 +80,22 @@ pub(crate) struct WaitingCall {
     pub(crate) location: Option<usize>,
     /// If it waits for the lock of a watch's value, who holds that.
     pub(crate) held_by: Option<HeldBy>,
+    /// Whether it was woken and had not gone on since, as the proved list of who waits said. Names
+    /// of older versions don't say it, and neither is it known of one that waits for a lock, stands
+    /// before a gate, or was dropped.
+    pub(crate) woken: Option<bool>,
     /// Of a call that was dropped while it waited: as `since`, when that was.
     pub(crate) until: Option<u64>,
     /// How long it waited, in microseconds, if that is known.
     pub(crate) waited: Option<u64>,
+}
+
+impl WaitingCall {
+    /// Whether this is the same call as another, which may have been seen at another time.
+    pub(crate) fn is_same(&self, other: &WaitingCall) -> bool {
+        let of = |it: &WaitingCall| (it.channel, it.handle, it.actor, it.since, it.location);
+        of(self) == of(other) && self.call == other.call
+    }
 }
 
 /// The look that holds the lock of a watch's value, as far as it is known.
@@ -343,6 +355,9 @@ fn push_waiting(out: &mut String, wait: &WaitingCall) {
         push_optional(out, location);
         out.push('}');
     }
+    if let Some(woken) = wait.woken {
+        let _ = write!(out, ", \"woken\": {woken}");
+    }
     for (key, number) in [("until", wait.until), ("waited", wait.waited)] {
         if let Some(number) = number {
             let _ = write!(out, ", \"{key}\": {number}");
@@ -430,6 +445,7 @@ mod tests {
         since: 2,
         location: None,
         held_by: None,
+        woken: None,
         until: None,
         waited: None,
     };
@@ -444,6 +460,7 @@ mod tests {
             since,
             location: None,
             held_by: None,
+            woken: None,
             until: None,
             waited: None,
         });
@@ -492,6 +509,7 @@ mod tests {
                     since: 12,
                     location: Some(1),
                     held_by: None,
+                    woken: Some(true),
                     until: None,
                     waited: None,
                 },
@@ -506,6 +524,7 @@ mod tests {
                         actor: Some(3),
                         location: None,
                     }),
+                    woken: None,
                     until: None,
                     waited: None,
                 },
@@ -529,7 +548,7 @@ mod tests {
   "made": {"0": {"0": 0, "1": 0, "2": 1}, "1": {"0": 1}},
   "calls": {"0": [1, null, 0]},
   "tasks": {"3": 1},
-  "waiting": [{"actor": 3, "channel": 0, "handle": 1, "call": "recv", "since": 12, "location": 1}, {"actor": 0, "channel": 1, "handle": 0, "call": "send", "since": 0, "location": null, "held_by": {"actor": 3, "location": null}}],
+  "waiting": [{"actor": 3, "channel": 0, "handle": 1, "call": "recv", "since": 12, "location": 1, "woken": true}, {"actor": 0, "channel": 1, "handle": 0, "call": "send", "since": 0, "location": null, "held_by": {"actor": 3, "location": null}}],
   "dropped_waits": [{"actor": 0, "channel": 0, "handle": 1, "call": "", "since": 2, "location": null, "until": 4, "waited": 30012}],
   "dropped_at": {"0": {"0": 1}},
   "dropped_in": {"0": {"0": "shop::publish"}}

@@ -61,9 +61,9 @@ fn a_lag_says_each_thing_of_the_channel_the_receiver_and_the_sender() {
     assert_eq!(lag.to_string(), text);
 }
 
-/// Has two senders take turns, so that the receiver has lost values when it asks. Returns whose
-/// send overwrote the first one, as the event says.
-fn overwriter(recorder: Recorder, values: u64) -> Option<String> {
+/// Has two senders take turns, so that the receiver has lost values when it asks. Returns the
+/// event.
+fn overwriter(recorder: Recorder, values: u64) -> Lag {
     let lags = Noted::<Lag>::default();
     recorder.on_lag(lags.noting());
     let _entered = recorder.enter();
@@ -76,19 +76,30 @@ fn overwriter(recorder: Recorder, values: u64) -> Option<String> {
         assert_eq!(prices.receiver_count(), 1);
     }
     asks(values - 4);
-    let lags = lags.take();
-    assert_eq!(lags[0].sender(), Some("desk"));
-    lags[0].overwritten_by().map(str::to_string)
+    let lag = lags.take().remove(0);
+    assert_eq!(lag.sender(), Some("desk"));
+    lag
 }
 
 #[test]
 fn a_lag_says_whose_send_overwrote_the_first_value_where_that_is_kept() {
     // The values 0 to 8 are lost. The first one was overwritten by the value 4.
-    let wanted = Some("exchange");
-    assert_eq!(overwriter(Recorder::new(), 13).as_deref(), wanted);
-    assert_eq!(overwriter(Recorder::flight(20), 13).as_deref(), wanted);
+    for recorder in [Recorder::new(), Recorder::flight(20)] {
+        let lag = overwriter(recorder, 13);
+        assert_eq!(lag.overwritten_by(), Some("exchange"));
+        let text = lag.to_string();
+        assert!(
+            text.contains("; the first was overwritten by exchange at "),
+            "{text}"
+        );
+        assert!(!text.contains("the last send"), "{text}");
+    }
     // Of 1000 calls, this keeps the last ones alone.
-    assert_eq!(overwriter(Recorder::flight(20), 500), None);
+    let lag = overwriter(Recorder::flight(20), 500);
+    assert_eq!(lag.overwritten_by(), None);
+    let text = lag.to_string();
+    assert!(text.contains("; the last send was by desk at "), "{text}");
+    assert!(!text.contains("overwritten"), "{text}");
 }
 
 #[test]

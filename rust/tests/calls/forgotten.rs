@@ -28,19 +28,24 @@ fn poll_and_forget(future: impl Future) -> Arc<Count> {
 }
 
 #[test]
-fn a_receive_that_is_forgotten_waits_until_its_receiver_gets_a_value() {
+fn a_receive_that_is_forgotten_waits_until_it_is_woken_and_is_gone_once_its_receiver_goes_on() {
     // Also where nothing is recorded.
     let (tx, mut rx) = broadcast::channel::<u32>(4);
     let count = poll_and_forget(rx.recv());
-    let waits_in = || ChannelSnapshot::of(&tx).receivers()[0].waits_in();
-    assert_eq!(waits_in(), Some("recv"));
+    let said = || {
+        let channel = ChannelSnapshot::of(&tx);
+        let receiver = &channel.receivers()[0];
+        (receiver.waits_in(), receiver.woken_in())
+    };
+    assert_eq!(said(), (Some("recv"), None));
     assert!(rx.try_recv().is_err());
-    assert_eq!(waits_in(), Some("recv"));
+    assert_eq!(said(), (Some("recv"), None));
     tx.send(1).unwrap();
     assert_eq!(count.0.load(Ordering::SeqCst), 1);
-    assert_eq!(waits_in(), Some("recv"));
+    // It was woken, and nobody polls it any more.
+    assert_eq!(said(), (None, Some("recv")));
     assert_eq!(rx.try_recv(), Ok(1));
-    assert_eq!(waits_in(), None);
+    assert_eq!(said(), (None, None));
     // It is the only one left that has its waker.
     assert_eq!(Arc::strong_count(&count), 1);
 }

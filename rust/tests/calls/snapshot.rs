@@ -4,7 +4,7 @@ use crate::told::{line, send_each};
 use std::future::Future;
 use std::pin::pin;
 use std::task::{Context, Waker};
-use std::time::Instant;
+use std::time::{Duration, Instant, SystemTime};
 use yovanelum::broadcast::error::TryRecvError;
 use yovanelum::{ChannelSnapshot, Recorder, block_on, broadcast, named, watch};
 
@@ -36,6 +36,9 @@ fn a_recorded_broadcast_says_each_thing_of_the_channel_and_of_its_receivers() {
     assert_eq!((channel.senders(), channel.weak_senders()), (2, 1));
     assert_eq!(channel.sender(), Some("exchange"));
     assert_eq!(line(channel.sent_at()), sent);
+    // Subscribe, clone and downgrade are the calls 1 to 3, the sends 4 to 9, `Lagged` is 10, and
+    // what is received 11. Nothing but a flight recorder looks at the clock.
+    assert_eq!((channel.sent_call(), channel.sent_time()), (Some(12), None));
     let [chart, waiting] = channel.receivers() else {
         panic!("two receivers: {channel:?}");
     };
@@ -45,8 +48,8 @@ fn a_recorded_broadcast_says_each_thing_of_the_channel_and_of_its_receivers() {
         (line(chart.made_at()), line(chart.received_at())),
         (made, received)
     );
-    // Subscribe, clone and downgrade are the calls 1 to 3, the sends 4 to 9, and `Lagged` is 10.
     assert_eq!(chart.received_call(), Some(11));
+    assert_eq!(chart.received_time(), None);
     let journal = recorder.journal().unwrap();
     assert!(
         journal.contains("\n11 0 0 try-recv 1 = value 2\n"),
@@ -241,6 +244,47 @@ fn receivers_past_the_first_65536_handles_are_there_too() {
     );
 }
 
+/// Waits until the clock says that this time is over, since times of calls are compared.
+fn pass(time: Duration) {
+    let began = Instant::now();
+    while began.elapsed() < time {
+        std::thread::yield_now();
+    }
+}
+
+#[test]
+fn a_call_that_nobody_follows_has_the_time_at_which_its_receiver_waited_again() {
+    let recorder = Recorder::flight(100);
+    let _entered = recorder.enter();
+    let (prices, mut chart) = broadcast::channel(2);
+    pass(Duration::from_millis(20));
+    let before = SystemTime::now();
+    prices.send(101).unwrap();
+    assert_eq!(block_on(chart.recv()), Ok(101));
+    let mut recv = pin!(chart.recv());
+    let mut context = Context::from_waker(Waker::noop());
+    assert!(recv.as_mut().poll(&mut context).is_pending());
+    let waits = SystemTime::now();
+    pass(Duration::from_millis(20));
+    let channel = ChannelSnapshot::of(&prices);
+    // A time has milliseconds, and is rounded down.
+    let least = before - Duration::from_millis(2);
+    let received = channel.receivers()[0].received_time().unwrap();
+    assert!(
+        (least..=waits).contains(&received),
+        "{received:?} {waits:?}"
+    );
+    let sent = channel.sent_time().unwrap();
+    assert!((least..=received).contains(&sent), "{sent:?} {received:?}");
+    // What was told once is told again, and by each snapshot.
+    pass(Duration::from_millis(20));
+    prices.send(102).unwrap();
+    let later = recorder.snapshot();
+    let chart = &later.channels()[0].receivers()[0];
+    assert_eq!(chart.received_time(), Some(received));
+    assert!(later.channels()[0].sent_time() > Some(sent));
+}
+
 /// Two receivers, one of which has lost a value and one of which waits, with the lines where both
 /// were made, and where each received or waits.
 fn two_receivers(check: impl FnOnce(&Recorder, [u32; 4])) {
@@ -269,7 +313,7 @@ fn a_person_reads_a_table() {
         let (file, text) = (file!(), recorder.snapshot().to_string());
         let lines: Vec<_> = text.lines().collect();
         let head = format!(
-            "prices: broadcast, capacity 2, sent 3, retained 1, senders 1, last sent by exchange at {file}:{sent}"
+            "prices: broadcast, capacity 2, sent 3, retained 1, senders 1, last sent by exchange at {file}:{sent}, call 3"
         );
         assert_eq!(lines[0], head);
         let at = |line: u32| format!("{file}:{line}");
@@ -315,11 +359,11 @@ fn a_program_reads_json() {
             format!(r#""made_at": ["{file}", {made}, "#),
             r#""capacity": 2, "sent": 3, "retained": 1, "senders": 1, "weak_senders": 0, "sender": "exchange""#.to_string(),
             format!(r#""sent_at": ["{file}", {sent}, "#),
-            r#""receivers": [{"name": "the \"chart\"""#.to_string(),
+            r#""sent_call": 3, "sent_time": null, "receivers": [{"name": "the \"chart\"""#.to_string(),
             r#""unread": 1, "lag": 0, "lost": 1"#.to_string(),
             format!(r#""received_at": ["{file}", {received}, "#),
-            r#""received_call": 5, "waits": null}, {"name": "receiver 2""#.to_string(),
-            r#""unread": 0, "lag": 0, "lost": 0, "received_at": null, "received_call": null, "waits": {"call": "recv", "at": "#.to_string(),
+            r#""received_call": 5, "received_time": null, "waits": null, "woken": null}, {"name": "receiver 2""#.to_string(),
+            r#""unread": 0, "lag": 0, "lost": 0, "received_at": null, "received_call": null, "received_time": null, "waits": {"call": "recv", "at": "#.to_string(),
             format!(r#"["{file}", {waits}, "#),
             r#""since": 6, "seconds": "#.to_string(),
         ];
@@ -330,16 +374,61 @@ fn a_program_reads_json() {
                 .unwrap_or_else(|| panic!("{part} in {rest}"));
             rest = &rest[start + part.len()..];
         }
-        let seconds = rest.strip_suffix("}}]}\n]}\n");
+        let seconds = rest.strip_suffix("}, \"woken\": null}]}\n]}\n");
         assert!(seconds.unwrap().parse::<f64>().unwrap() >= 0.0, "{rest}");
         let channel = recorder.snapshot().channels()[0].to_json();
         assert_eq!(
             (
                 channel.starts_with(r#"{"name": "prices""#),
-                channel.ends_with("}}]}")
+                channel.ends_with("}, \"woken\": null}]}")
             ),
             (true, true)
         );
     });
     assert_eq!(Recorder::new().snapshot().to_json(), "{\"channels\": []}\n");
+}
+
+#[test]
+fn receivers_that_were_woken_no_longer_wait_and_say_in_which_call() {
+    let recorder = Recorder::new();
+    let _entered = recorder.enter();
+    let (prices, mut chart) = broadcast::channel(4);
+    let (mut audit, mut late) = (prices.subscribe(), prices.subscribe());
+    let (chart_at, mut chart_recv) = (line!(), pin!(chart.recv()));
+    let (audit_at, mut audit_recv) = (line!(), pin!(audit.recv()));
+    let mut context = Context::from_waker(Waker::noop());
+    assert!(chart_recv.as_mut().poll(&mut context).is_pending());
+    assert!(audit_recv.as_mut().poll(&mut context).is_pending());
+    // One send wakes both.
+    prices.send(101).unwrap();
+    assert_eq!(late.try_recv(), Ok(101));
+    let mut late_recv = pin!(late.recv());
+    assert!(late_recv.as_mut().poll(&mut context).is_pending());
+    let said = || {
+        let channel = ChannelSnapshot::of(&prices);
+        let receivers = channel.receivers().iter();
+        let said = receivers.map(|it| {
+            (
+                it.waits_in(),
+                it.woken_in(),
+                it.woken_at().map(|at| at.line()),
+            )
+        });
+        said.collect::<Vec<_>>()
+    };
+    let woken = |at| (None, Some("recv"), Some(at));
+    let waits = (Some("recv"), None, None);
+    assert_eq!(said(), [woken(chart_at), woken(audit_at), waits]);
+    let table = ChannelSnapshot::of(&prices).to_string();
+    let cell = format!("  woken in recv at {}:{chart_at} for ", file!());
+    assert!(table.lines().nth(2).unwrap().contains(&cell), "{table}");
+    let json = ChannelSnapshot::of(&prices).to_json();
+    assert_eq!(
+        json.matches(r#""waits": null, "woken": {"call": "recv", "at": ["#)
+            .count(),
+        2
+    );
+    // Who is polled goes on, and the other is still to be polled.
+    assert!(chart_recv.as_mut().poll(&mut context).is_ready());
+    assert_eq!(said(), [(None, None, None), woken(audit_at), waits]);
 }

@@ -1,12 +1,13 @@
-//! Who is woken, how often and in which order, beside lists that are kept by hand: in random
-//! scripts, and in all orders of three actors.
+//! Who is woken, how often and in which order, beside lists that are kept by hand, and who waits,
+//! beside what the documentation says that each call would reply: in random scripts, and in all
+//! orders of three actors.
 
 use crate::support::random::Random;
 use std::future::Future;
 use std::pin::Pin;
 use std::sync::{Arc, Mutex};
 use std::task::{Context, Poll, Wake, Waker};
-use yovanelum::{Polled, Recorder, broadcast, watch};
+use yovanelum::{ChannelSnapshot, Polled, Recorder, broadcast, watch};
 
 /// A waker that notes its number where it is woken.
 struct Noting {
@@ -106,6 +107,8 @@ struct Receiving<R> {
 struct Closing {
     future: Pin<Box<dyn Future<Output = ()>>>,
     waits: bool,
+    // Whether no receiver was alive after some step since its last poll.
+    is_ready: bool,
 }
 
 /// A channel, and beside it the lists by hand. Each waiter has a number of its own.
@@ -235,8 +238,11 @@ impl<C: Tried> Trial<C> {
     fn close(&mut self) {
         if let Some(sender) = self.senders.first() {
             let future = C::closed(sender.clone());
-            let waits = false;
-            self.closing.push(Some(Closing { future, waits }));
+            self.closing.push(Some(Closing {
+                future,
+                waits: false,
+                is_ready: false,
+            }));
         }
     }
 
@@ -255,6 +261,7 @@ impl<C: Tried> Trial<C> {
             .as_mut()
             .poll(&mut Context::from_waker(&waker));
         closing.waits = polled.is_pending();
+        closing.is_ready = false;
         let has_receiver = self.receivers.iter().flatten().next().is_some();
         assert_eq!(polled.is_pending(), has_receiver, "closed {index}");
         if polled.is_ready() {
@@ -279,12 +286,51 @@ impl<C: Tried> Trial<C> {
 
     /// Compares who was woken, in order, and how many calls are listed: those that were polled and
     /// have not ended.
-    fn check(&self) {
+    fn check(&mut self) {
         assert_eq!(*self.woken.lock().unwrap(), self.expected);
         let receiving = self.receivers.iter().flatten().filter(|it| it.waits);
         let closing = self.closing.iter().flatten().filter(|it| it.waits);
         let waiting = receiving.count() + closing.count();
         assert_eq!(self.recorder.waiting().len(), waiting);
+        if self.receivers.iter().flatten().next().is_none() {
+            let closing = self.closing.iter_mut().flatten();
+            closing.for_each(|it| it.is_ready = true);
+        }
+        self.check_who_waits();
+    }
+
+    /// Compares which of the listed calls wait with the reply that the documentation gives each in
+    /// the channel as it is: a receive waits if nothing is unread and a sender is alive, and
+    /// `closed` if a receiver is. All others were woken, and say so. That also holds for a `closed`
+    /// that was woken where a receiver is created again, before somebody polls it: polled, it
+    /// would wait again, and nothing but that poll lists it.
+    fn check_who_waits(&self) {
+        let (senders, receivers) = (self.all_senders(), self.receivers.iter().flatten().count());
+        let would_wait = |unread| unread == 0 && senders > 0;
+        let begun = self.receivers.iter().flatten().filter(|it| it.waits);
+        let receiving = begun.filter(|it| would_wait(it.unread)).count();
+        let closing = self.closing.iter().flatten().filter(|it| it.waits);
+        let closing = closing.filter(|it| !it.is_ready).count();
+        assert!(closing == 0 || receivers > 0);
+        let waiting = self.recorder.waiting().into_iter();
+        let waiting = waiting.filter(|it| !it.is_woken());
+        let (of_senders, of_receivers): (Vec<_>, Vec<_>) =
+            waiting.partition(|it| it.call() == "closed");
+        assert_eq!((of_receivers.len(), of_senders.len()), (receiving, closing));
+
+        // Each receiver, also with what the core says of its unread values.
+        let snapshot = self.recorder.snapshot();
+        let channel = snapshot.channels().iter().next();
+        let said = channel.map_or(&[][..], ChannelSnapshot::receivers).iter();
+        let said = said.map(|it| {
+            let unread = u32::try_from(it.unread()).unwrap();
+            (it.waits_in().is_some(), it.woken_in().is_some(), unread)
+        });
+        let wanted = self.receivers.iter().flatten().map(|it| {
+            let would_wait = would_wait(it.unread);
+            (it.waits && would_wait, it.waits && !would_wait, it.unread)
+        });
+        assert!(said.eq(wanted));
     }
 
     fn random_step(&mut self, random: &mut Random) {

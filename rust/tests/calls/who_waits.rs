@@ -28,6 +28,11 @@ fn listed(recorder: &Recorder) -> Vec<String> {
     recorder.waiting().iter().map(words).collect()
 }
 
+/// Which of the calls that are listed were woken, in order.
+fn woken(recorder: &Recorder) -> Vec<bool> {
+    recorder.waiting().iter().map(Waiting::is_woken).collect()
+}
+
 fn is_send_and_sync<F: Future + Send + Sync>(_: &F) -> bool {
     true
 }
@@ -65,12 +70,18 @@ fn a_receive_that_waits_is_listed_until_it_ends() {
         shown,
         format!("auditor in `channel 0.recv`, {}:{line}", file!())
     );
-    // It still waits while it is woken and wasn't polled again, and after a poll that it waits in.
+    // It still waits after a poll that it waits in.
+    wait(recv.as_mut());
+    assert_eq!(woken(&recorder), [false]);
+    // It is listed while it is woken and wasn't polled again.
     tx.send(2).unwrap();
     assert_eq!(
         listed(&recorder),
         ["auditor: channel 0.recv of receiver 1 since 2"]
     );
+    assert_eq!(woken(&recorder), [true]);
+    let wanted = format!("{shown}, which was woken and hasn't gone on since");
+    assert_eq!(recorder.waiting()[0].to_string(), wanted);
     assert_eq!(poll_once(recv.as_mut()), Some(Ok(2)));
     assert_eq!(listed(&recorder), [""; 0]);
 }
@@ -175,7 +186,7 @@ fn the_names_have_the_calls_that_wait() {
     let recorder = Recorder::new();
     let _entered = recorder.enter();
     let (tx, mut rx) = broadcast::channel(2);
-    let (state, _state_rx) = watch::channel(0);
+    let (state, state_rx) = watch::channel(0);
     tx.send(1).unwrap();
     rx.try_recv().unwrap();
     let line = line!() + 1;
@@ -195,16 +206,27 @@ fn the_names_have_the_calls_that_wait() {
     // The thread of the test is actor 0. The last call that was recorded before both has stamp 2.
     let wanted = [
         format!(
-            r#"{{"actor": 1, "channel": 0, "handle": 1, "call": "recv", "since": 2, "location": {receive}}}"#
+            r#"{{"actor": 1, "channel": 0, "handle": 1, "call": "recv", "since": 2, "location": {receive}, "woken": false}}"#
         ),
         format!(
-            r#"{{"actor": 2, "channel": 1, "handle": 0, "call": "closed", "since": 2, "location": {close}}}"#
+            r#"{{"actor": 2, "channel": 1, "handle": 0, "call": "closed", "since": 2, "location": {close}, "woken": false}}"#
         ),
     ];
     assert_eq!(
         member(&names, "waiting"),
         format!("[{}]", wanted.join(", "))
     );
+    // The value wakes the one, and the drop of the last receiver the other.
+    let woken = |recorder| {
+        let names = saved_names(recorder, "who-was-woken");
+        let waiting = member(&names, "waiting");
+        let woken = waiting.split(r#""woken": "#).skip(1);
+        woken.map(|it| it.starts_with("true")).collect::<Vec<_>>()
+    };
+    tx.send(3).unwrap();
+    assert_eq!(woken(&recorder), [true, false]);
+    drop(state_rx);
+    assert_eq!(woken(&recorder), [true, true]);
 }
 
 #[test]
@@ -357,6 +379,8 @@ fn a_call_that_waits_for_a_look_says_whose_it_is() {
             let end = format!(", for a look taken at {}:{looked} by {me}", file!());
             assert!(said.starts_with(&start), "{said}");
             assert!(said.ends_with(&end), "{said}");
+            // The lock of the value is no wait for the channel, so nothing wakes it.
+            assert_eq!(woken(&recorder), [false]);
             drop(look);
             sender.join().unwrap();
             assert_eq!(listed(&recorder), [""; 0]);

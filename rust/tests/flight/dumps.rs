@@ -131,8 +131,8 @@ fn the_close_of_each_of_several_names_calls_for_a_dump_and_one_is_kept_at_least(
     fs::remove_dir_all(folder).unwrap();
 }
 
-/// Waits until so many dumps were written, and returns whether the only one that is kept was begun
-/// by the close of this channel.
+/// Waits until this many dumps were written, and returns whether the only one that is kept was
+/// begun by the close of this channel.
 fn has_dump_of(recorder: &Recorder, folder: &Path, count: u64, channel: &str) -> bool {
     wait_for(recorder, count);
     let dumps = dumps_in(folder);

@@ -114,7 +114,7 @@ fn texts_are_those_of_values_that_the_journal_has() {
 fn the_first_value_keeps_its_text_where_it_was_not_overwritten() {
     let recorder = Recorder::flight(4);
     let _entered = recorder.enter();
-    // A chunk has a fourth of these calls.
+    // None of these values is overwritten.
     let (prices, _chart) = broadcast::channel(64);
     recorder.show(&prices, |price| format!("{price} EUR"));
     for price in 0..40 {

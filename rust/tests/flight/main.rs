@@ -3,6 +3,8 @@
 // WebAssembly has no threads, and ends at the first panic.
 #[cfg(not(target_family = "wasm"))]
 mod dumps;
+#[cfg(not(target_family = "wasm"))]
+mod held;
 mod last_calls;
 #[cfg(not(target_family = "wasm"))]
 mod night;

@@ -9,12 +9,13 @@ use super::support::temporary;
 use super::windows::{callers, texts};
 use std::collections::BTreeMap;
 use std::fs;
+use std::time::Duration;
 
 #[test]
 fn each_of_many_connections_has_its_name_in_the_last_dump() {
     let folder = temporary::path("flight-night");
     let _ = fs::remove_dir_all(&folder);
-    let night = example::night(1_000, &folder).unwrap();
+    let night = example::night(1_000, Duration::ZERO, &folder).unwrap();
     assert_eq!(night.dumps.failed(), 0);
     let journal = fs::read_to_string(&night.last).unwrap();
     let names = fs::read_to_string(night.last.with_extension("names")).unwrap();

@@ -173,15 +173,27 @@ fn compare(channel: Channel<'_>, begun: (Channel<'_>, &Window), snapshot: &Chann
     }
 }
 
+/// The greatest capacity of a channel.
+const MOST_RETAINED: u64 = 16;
+
+/// The greatest number of live handles of a channel: 12 receivers, 6 senders, 6 weak ones, and one
+/// that is created while the list of its kind is full.
+const MOST_ALIVE: u64 = 25;
+
+/// How many calls a channel keeps at most where `asked` are asked for, as the recorder documents.
+fn most_kept(asked: u64) -> u64 {
+    (2 * asked.max(2)).max(MOST_RETAINED + 2 * MOST_ALIVE)
+}
+
 /// Compares a journal of the last calls with the channels.
-fn check(recorder: &Recorder, most_calls: u64) {
+fn check(recorder: &Recorder, asked: u64) {
     let (journal, names) = (recorder.journal().unwrap(), recorder.names());
     let mut end = Walk::open(journal.as_bytes()).unwrap();
     let mut begun = Walk::open(journal.as_bytes()).unwrap();
     let windows = windows(&names);
     let lead: u64 = windows.iter().map(|window| window.lead).sum();
     let (end_place, lead_place) = (end.len(), lead);
-    assert!(end_place - lead <= 2 * most_calls * windows.len() as u64);
+    assert!(end_place - lead <= most_kept(asked) * windows.len() as u64);
     assert!(end.go_to(end_place) && begun.go_to(lead_place));
     for place in 1..=end_place {
         assert_eq!(end.entry(place).unwrap().actor() == 63, place <= lead);

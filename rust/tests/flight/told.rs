@@ -13,7 +13,7 @@ use yovanelum::broadcast::error::TryRecvError;
 use yovanelum::{Recorder, block_on, broadcast, named};
 
 /// Returns what `yovanelum why` prints of a journal.
-fn why(journal: &Path, more: &[&str]) -> String {
+pub fn why(journal: &Path, more: &[&str]) -> String {
     let command = Command::new(env!("CARGO_BIN_EXE_yovanelum"))
         .arg("why")
         .arg(journal)

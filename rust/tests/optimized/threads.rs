@@ -36,7 +36,7 @@ fn joined<R>(threads: Vec<JoinHandle<R>>) -> Vec<R> {
 
 /// What a receiver got: its values in order, the same values as a set, and how many it lost.
 #[derive(Default)]
-struct Came {
+struct ReceivedValues {
     got: Vec<Sent>,
     all: HashSet<Sent>,
     lost: u64,
@@ -45,16 +45,16 @@ struct Came {
 /// A value: its sender, and how many values that sender sent before.
 type Sent = (usize, u64);
 
-impl Came {
+impl ReceivedValues {
     /// Returns the values that the other receiver got too, in the order in which this one got them.
-    fn common_with(&self, other: &Came) -> impl Iterator<Item = &Sent> {
+    fn common_with(&self, other: &ReceivedValues) -> impl Iterator<Item = &Sent> {
         self.got.iter().filter(|value| other.all.contains(value))
     }
 }
 
 /// Receives until the channel is closed. Asserts that the values of each sender rise.
-fn receive_all(mut rx: Receiver<Sent>) -> Came {
-    let mut came = Came::default();
+fn receive_all(mut rx: Receiver<Sent>) -> ReceivedValues {
+    let mut came = ReceivedValues::default();
     let mut last = [None; 4];
     loop {
         match rx.blocking_recv() {

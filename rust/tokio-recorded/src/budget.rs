@@ -92,12 +92,12 @@ pub(crate) async fn held<F: Future>(future: F, at: Place) -> F::Output {
     // Before the future, so that it is dropped after it.
     let mut blocked = yovanelum::BlockedOn::new();
     let mut future = pin!(future);
-    let mut seen = yovanelum::BlockedTask::default();
+    let mut seen = yovanelum::SeenPolls::default();
     let poll = |context: &mut Context<'_>| {
         if yovanelum::is_thread_held(context) {
             Poll::Pending
         } else {
-            seen.poll(context, |context| future.as_mut().poll(context))
+            seen.poll_blocked(context, |context| future.as_mut().poll(context))
         }
     };
     let output = poll_fn(poll).await;

@@ -3,7 +3,8 @@
 //! Everything else is tokio's own, but the [`runtime::Runtime`] and its builder: their threads
 //! follow the test. What spawns tasks is wrapped too ([`spawn`], a runtime and its handle, and sets
 //! of tasks), so that each has a name of its own in the test's journal, and is seen where a test is
-//! explored. Types, functions and macros are re-exported, and so is what a later version adds.
+//! explored. There timers ([`time`]) end by a clock that stands still while tasks are held. Types,
+//! functions and macros are re-exported, and so is what a later version adds.
 
 pub use real_tokio::*;
 
@@ -11,6 +12,10 @@ pub use real_tokio::*;
 mod budget;
 #[cfg(all(feature = "rt", feature = "sync"))]
 mod handle;
+#[cfg(all(feature = "rt", feature = "sync", feature = "time"))]
+mod interval;
+#[cfg(feature = "sync")]
+mod points;
 #[cfg(all(feature = "rt", feature = "sync"))]
 pub mod runtime;
 #[cfg(all(feature = "rt", feature = "sync"))]
@@ -19,6 +24,8 @@ mod sets;
 mod spawning;
 #[cfg(all(feature = "rt", feature = "sync"))]
 mod tasks;
+#[cfg(all(feature = "rt", feature = "sync", feature = "time"))]
+mod timers;
 
 #[cfg(all(feature = "rt", feature = "sync"))]
 pub use spawning::spawn;
@@ -30,6 +37,14 @@ pub mod task {
     pub use crate::sets::{JoinSet, LocalSet};
     pub use crate::spawning::{spawn, spawn_blocking, spawn_local};
     pub use real_tokio::task::*;
+}
+
+/// tokio's `time`, with timers that stand still where a run that is explored holds its tasks.
+#[cfg(all(feature = "rt", feature = "sync", feature = "time"))]
+pub mod time {
+    pub use crate::interval::{Interval, interval, interval_at};
+    pub use crate::timers::{Sleep, Timeout, sleep, sleep_until, timeout, timeout_at};
+    pub use real_tokio::time::*;
 }
 
 /// tokio's `sync`, with the two channels of yovanelum.
@@ -47,6 +62,41 @@ pub mod sync {
         pub fn channel<T: Clone>(capacity: usize) -> (Sender<T>, Receiver<T>) {
             yovanelum::record_tests();
             yovanelum::broadcast::channel(capacity)
+        }
+    }
+
+    /// tokio's `mpsc`.
+    pub mod mpsc {
+        pub use real_tokio::sync::mpsc::*;
+
+        /// As tokio's own.
+        ///
+        /// # Panics
+        ///
+        /// Panics where tokio's own does.
+        #[track_caller]
+        pub fn channel<T>(buffer: usize) -> (Sender<T>, Receiver<T>) {
+            crate::points::set();
+            real_tokio::sync::mpsc::channel(buffer)
+        }
+
+        /// As tokio's own.
+        #[track_caller]
+        pub fn unbounded_channel<T>() -> (UnboundedSender<T>, UnboundedReceiver<T>) {
+            crate::points::set();
+            real_tokio::sync::mpsc::unbounded_channel()
+        }
+    }
+
+    /// tokio's `oneshot`.
+    pub mod oneshot {
+        pub use real_tokio::sync::oneshot::*;
+
+        /// As tokio's own.
+        #[track_caller]
+        pub fn channel<T>() -> (Sender<T>, Receiver<T>) {
+            crate::points::set();
+            real_tokio::sync::oneshot::channel()
         }
     }
 

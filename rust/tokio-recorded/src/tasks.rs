@@ -16,8 +16,9 @@ use yovanelum::{record_tests, set_patch, set_task_id};
 pub(crate) fn tell_apart() {
     set_task_id(current);
     budget::tell();
+    crate::points::set();
     #[cfg(feature = "time")]
-    yovanelum::set_clock(|| real_tokio::time::Instant::now().into_std());
+    yovanelum::set_clock(crate::timers::clock);
     set_patch(env!("CARGO_MANIFEST_DIR"));
     record_tests();
 }

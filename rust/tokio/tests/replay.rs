@@ -289,6 +289,9 @@ fn a_runtime_that_ends_in_mid_run_is_replayed_or_parts() {
     });
 }
 
+/// The line that creates the channel of the two tasks.
+const TURNS_MADE_AT: u32 = line!() + 7;
+
 /// Two tasks of one thread take turns at a receiver, each of three times, or each has one of its
 /// own.
 fn turns(recorder: &Recorder, is_shared: bool) -> Replayed {
@@ -336,8 +339,11 @@ fn tasks_without_a_name_that_take_turns_at_a_receiver_are_not_told_apart() {
         assert!(!shared.is_in_order());
         assert_eq!(
             shared.to_string(),
-            "all 14 calls in the recorded order; but several callers use handle 1 of channel 0, \
-             and a replay can't tell them apart: give each a name of its own"
+            format!(
+                "all 14 calls in the recorded order; but several callers use handle 1 of the channel of {}:{TURNS_MADE_AT}, \
+                 and a replay can't tell them apart: give each a name of its own",
+                file!()
+            )
         );
     });
 }

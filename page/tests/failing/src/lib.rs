@@ -17,7 +17,7 @@ pub fn publish(prices: Sender<u32>, all: std::ops::RangeInclusive<u32>) {
         for price in all {
             prices.send(price).unwrap(); // a price is sent
         }
-    });
+    }); // the ticker ends
     ticker.join().unwrap();
 }
 

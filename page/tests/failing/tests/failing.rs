@@ -3,7 +3,6 @@
 use shop::{Order, poll, publish, receive, start};
 use std::cell::Cell;
 use std::time::Duration;
-use yovanelum::broadcast::error::TryRecvError;
 use yovanelum::{Recorder, block_on, broadcast, named, set_task_id, watch};
 
 #[test]
@@ -127,7 +126,7 @@ fn the_second_task_gets_the_first_order() {
         TASK.set(Some(7));
         block_on(async { (71..=73).for_each(|order| drop(orders.send(order))) }); // a task sends
         TASK.set(None);
-    });
+    }); // the runtime ends
     clerk.join().unwrap();
     let reader = start("reader", move || block_on(receive("till", &mut first)));
     reader.join().unwrap();
@@ -220,7 +219,7 @@ fn the_last_tick_arrives() {
 #[test]
 fn the_last_bus_is_read() {
     let recorder = Recorder::for_test("the_last_bus_is_read");
-    let _others: Vec<_> = (0..64).map(|_| broadcast::channel::<u32>(1)).collect();
+    let _others: Vec<_> = (0..64).map(|_| broadcast::channel::<u32>(1)).collect(); // all but one are created
     let (bus, mut reader) = broadcast::channel(1);
     recorder.name(&bus, "bus");
     (0..3).for_each(|number| drop(bus.send(number)));

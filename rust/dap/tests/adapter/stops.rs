@@ -118,6 +118,31 @@ fn a_function_of_an_actor_has_all_calls_that_it_makes() {
 }
 
 #[test]
+fn a_channel_without_a_name_is_called_by_its_place_as_in_the_report() {
+    let folder = Folder::new();
+    let recorder = Recorder::new();
+    let entered = recorder.enter();
+    let (orders, _audit) = broadcast::channel(4);
+    let channel = format!("channel of {}:{}", file!(), line!() - 1);
+    orders.send(1).unwrap();
+    drop(entered);
+    let journal = folder.path("orders.journal");
+    recorder.save(&journal).unwrap();
+    let mut client = Client::new(false);
+    client.launch(json!({"journal": journal, "stopAt": "end"}));
+    let frame = client.frames(TICKER)[0]["id"].clone();
+    let scopes = client.ask("scopes", json!({"frameId": frame}));
+    let scope = scopes["scopes"][1]["name"].as_str().unwrap().to_string();
+    assert!(scope.starts_with(&channel), "{scope}, and not {channel}");
+    // By its number too.
+    for name in [&*channel, "channel 0"] {
+        let send = format!("{name}.send");
+        let sends = json!({"breakpoints": [{"name": send}]});
+        numbers(&client.ask("setFunctionBreakpoints", sends));
+    }
+}
+
+#[test]
 fn a_step_of_an_instruction_goes_to_each_call() {
     let (_folder, mut client, _lines) = launched("start");
     let one = json!({"threadId": TICKER, "granularity": "instruction"});

@@ -1,7 +1,7 @@
 //! A program of tasks that is explored for a condition.
 
 use crate::Program;
-use crate::json::{number, text};
+use crate::json::{best_of_ten, number, text};
 use std::collections::BTreeSet;
 
 const FOR: &str = "YOVANELUM_EXPLORE_FOR";
@@ -36,8 +36,7 @@ fn a_task_that_can_lag_is_found_though_its_test_passes() {
     let (passes, said, json) = program.explored_with(&[asked], 100, "4000");
     assert!(!passes, "{said}");
     assert!(said.contains(" met `lagging audit`, in run "), "{said}");
-    let best = number(&json, "byJournal").max(number(&json, "bySchedule"));
-    assert_eq!(best, 10, "{json}");
+    assert_eq!(best_of_ten(&json), 10, "{json}");
     let (passes, said, again) = program.explored_with(&[asked], 1, &text(&json, "order"));
     assert!(!passes, "{said}");
     assert_eq!(number(&again, "call"), number(&json, "call"), "{again}");
@@ -63,6 +62,12 @@ fn a_state_that_no_order_has_is_not_met() {
     assert!(said.contains(told) && said.contains("10 guided"), "{said}");
 }
 
+/// Returns the text of a schedule without what its run has lost, which depends on the machine.
+fn without_time(text: String) -> String {
+    let lines = text.lines().filter(|line| !line.starts_with("lost "));
+    lines.collect::<Vec<_>>().join("\n")
+}
+
 #[test]
 fn a_guided_order_is_the_same_each_time() {
     for (name, condition) in [
@@ -73,7 +78,7 @@ fn a_guided_order_is_the_same_each_time() {
         for seed in 0..4 {
             let order = format!("g{seed}.20");
             let schedules = (0..5).map(|_| program.schedule_for(&order, condition));
-            let schedules: BTreeSet<_> = schedules.collect();
+            let schedules: BTreeSet<_> = schedules.map(without_time).collect();
             assert_eq!(schedules.len(), 1, "{name} {order}: {schedules:?}");
         }
     }

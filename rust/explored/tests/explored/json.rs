@@ -26,3 +26,20 @@ pub fn text(json: &str, key: &str) -> String {
 pub fn hangs(json: &str) -> bool {
     json.contains("\"failure\": \"everybody waits forever\"")
 }
+
+/// Returns how many of ten tries brought the failure back by the journal, by the choices, and by
+/// the order's name. Where the first five agree, there are no more.
+pub fn of_ten(json: &str) -> [u64; 3] {
+    let tries = member(json, "tries").strip_prefix('[').unwrap();
+    let mut tries = tries.split([',', ']']);
+    ["byJournal", "bySchedule", "byOrder"].map(|way| {
+        let of: u64 = tries.next().unwrap().trim().parse().unwrap();
+        number(json, way) * 10 / of.max(1)
+    })
+}
+
+/// Returns the better one of journal and choices.
+pub fn best_of_ten(json: &str) -> u64 {
+    let [journal, schedule, _] = of_ten(json);
+    journal.max(schedule)
+}

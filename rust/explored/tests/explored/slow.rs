@@ -1,7 +1,9 @@
 //! Tests that take long, since runs hang or are many: `rust/test slow` runs them.
 
 use crate::json::text;
-use crate::{PROGRAMS, Program, assert_brought_back, assert_found, assert_right_in};
+use crate::{
+    PROGRAMS, Program, assert_brought_back, assert_found, assert_right_in, assert_tells_time,
+};
 use std::fs;
 use std::path::Path;
 
@@ -12,7 +14,7 @@ fn a_client_that_waits_forever_is_found() {
         "waits_forever",
         &[
             "yovanelum: waits_forever hangs: everybody waits forever; its calls so far are in ",
-            "yovanelum: still waiting: client in `channel 0.changed`, tests/programs/threads.rs:",
+            "yovanelum: still waiting: client in `channel of tests/programs/threads.rs:275: changed`, tests/programs/threads.rs:",
         ],
     );
 }
@@ -48,6 +50,27 @@ fn a_message_that_a_server_loses_on_two_workers_is_found() {
     ];
     // Which worker polls what isn't chosen.
     assert_brought_back("chat", &lines, 7);
+}
+
+/// Their runs wait for their timers.
+#[test]
+#[ignore = "rust/test slow runs it"]
+fn bugs_of_time_are_found() {
+    for name in [
+        "asks_again",
+        "flushed_in_between",
+        "taken_to_be_dead",
+        "evicted_before_it_is_read",
+        "published_too_early",
+        "given_up_at_stop",
+        "two_leaders",
+        "second_answer_is_late",
+    ] {
+        // Their timers are those of the machine's clock, which goes on while tasks are held: at a
+        // load of 15, one came back in five of ten replays.
+        assert_tells_time(&assert_brought_back(name, &[], 4));
+    }
+    assert_right_in(2, "waits_for_a_limit", &[]);
 }
 
 /// Each takes seconds, since runs and replays hang.

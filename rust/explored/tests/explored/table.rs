@@ -1,7 +1,7 @@
 //! The whole table, by a command: how many runs find each bug from ten seeds on, how often the
 //! journal and the schedule bring it back, and how many runs fail that nobody explores.
 
-use crate::json::{hangs, number, text};
+use crate::json::{hangs, number, of_ten, text};
 use crate::natural::natural;
 use crate::{PROGRAMS, Program};
 use std::collections::{BTreeMap, BTreeSet};
@@ -19,7 +19,8 @@ const BESIDE: usize = 20;
 /// The programs that have a bug are those before this one.
 pub const FIRST_RIGHT: &str = "chat_on_one_thread";
 
-fn programs() -> impl Iterator<Item = (&'static str, fn())> {
+/// The programs that are meant.
+pub fn programs() -> impl Iterator<Item = (&'static str, fn())> {
     let only = env::var("ONLY").ok();
     let is_meant = move |name: &str| {
         only.as_ref()
@@ -31,7 +32,7 @@ fn programs() -> impl Iterator<Item = (&'static str, fn())> {
         .filter(move |(name, _)| is_meant(name))
 }
 
-fn is_right(name: &str) -> bool {
+pub fn is_right(name: &str) -> bool {
     let at = |name: &str| PROGRAMS.iter().position(|(other, _)| *other == name);
     at(name) >= at(FIRST_RIGHT)
 }
@@ -42,7 +43,7 @@ fn setting(variable: &str, default: u64) -> u64 {
 }
 
 /// Returns how busy the machine is.
-fn load() -> String {
+pub fn load() -> String {
     let load = fs::read_to_string("/proc/loadavg").unwrap_or_default();
     load.split(' ').take(3).collect::<Vec<_>>().join(" ")
 }
@@ -99,7 +100,7 @@ fn row(name: &'static str) -> String {
         "`{name}` | {search} | {} | {} of {REPLAYS} | {} | {} | {}",
         seeds[seeds.len() / 2],
         replays(&program, &journal, hangs),
-        number(&json, "bySchedule"),
+        of_ten(&json)[1],
         grouped(&natural(name, false, seconds)),
         grouped(&natural(name, true, seconds))
     )

@@ -1,9 +1,15 @@
 //! Programs: with a bug of order that runs show rarely or never, and right ones.
 
+pub mod covered;
+pub mod edges;
+pub mod limits;
+pub mod points;
+pub mod races;
 pub mod right;
 pub mod servers;
 pub mod tasks;
 pub mod threads;
+pub mod timers;
 pub mod workers;
 
 use std::future::Future;

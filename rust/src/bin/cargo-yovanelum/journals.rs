@@ -69,6 +69,12 @@ impl FoundJournal {
         stem.ends_with(PASSED)
     }
 
+    /// Whether a schedule beside it has steps that are calls of tokio's own.
+    pub fn has_points(&self) -> bool {
+        let schedule = fs::read_to_string(self.path.with_extension("schedule"));
+        schedule.is_ok_and(|text| text.lines().any(|line| line == "points"))
+    }
+
     /// Returns the journal of the last run that passed, which may not be there.
     pub fn passed(&self) -> PathBuf {
         let stem = self.path.file_stem().unwrap_or_default().to_string_lossy();

@@ -6,6 +6,9 @@ mod lacking;
 mod lock;
 #[path = "../../harness/stand_in/manifest.rs"]
 mod manifest;
+#[path = "../../harness/program/options.rs"]
+mod options;
+mod points;
 mod run;
 mod signals;
 mod stand_in;
@@ -13,7 +16,9 @@ mod words;
 mod workspace;
 
 use journals::FoundJournal;
-use run::CommandRun;
+use options::Speaker;
+use points::POINTS;
+use run::{CommandRun, DEBUG_VALUES};
 use std::env;
 use std::ffi::OsString;
 use std::fs;
@@ -26,6 +31,9 @@ use workspace::{CommandFailed, Workspace};
 
 /// The variable by which the runs of tests that pass are kept.
 const KEEP_PASSED: &str = "YOVANELUM_KEEP_PASSED";
+
+/// The option of `why` by which it draws nothing in a terminal.
+const NO_PICTURE: &str = "--no-picture";
 
 /// The completions of each shell.
 const COMPLETIONS: [(&str, &str); 3] = [
@@ -58,14 +66,17 @@ Commands:
 Options:
       --report-after <SECONDS>  Report a test that hasn't ended after this time [default: 60]
       --short                   Leave the lines of the sources out of reports
+      --no-picture              Draw no receivers where `why` prints to a terminal
       --only <TEST>             Record this test alone. It may be given several times
       --passing                 Keep the runs of tests that pass, too: `list --passing` lists them
+      --debug-values            Show values of all types that have `Debug`, by what is unstable
       --runs <RUNS>             How many orders `explore` tries [default: 1000], and how many runs
                                 `diff` waits for one that passes [default: 10]
   -h, --help                    Print help
   -V, --version                 Print version
 
-A TEST is given by its path, or the end of it. Words after a TEST are those of `cargo test`.
+A TEST is given by its path, or the end of it. WORDS are those of cargo's own command, and words
+after a TEST those of `cargo test`: `cargo test --help` lists them.
 ";
 
 fn main() -> ExitCode {
@@ -97,6 +108,7 @@ fn begin(mut words: Vec<String>) -> Result<u8, CommandFailed> {
     };
     match verb.as_str() {
         "-h" | "--help" | "help" => print(USAGE),
+        verb if is_command(verb) && asks_for_help(words) => print(USAGE),
         "-V" | "--version" => print(concat!("cargo-yovanelum ", env!("CARGO_PKG_VERSION"), "\n")),
         "test" | "t" => test(&["test"], words),
         "run" | "r" => test(&["run"], words),
@@ -115,6 +127,17 @@ fn begin(mut words: Vec<String>) -> Result<u8, CommandFailed> {
         "completions" => completions(words),
         _ => Err(usage(format!("no such command: `{verb}`"))),
     }
+}
+
+/// Whether the help lists a command with this name.
+fn is_command(verb: &str) -> bool {
+    ["t", "r"].contains(&verb) || USAGE.contains(&format!("\n  {verb} "))
+}
+
+/// Whether words of this command ask for help. Those from `--` on are the test program's.
+fn asks_for_help(words: &[String]) -> bool {
+    let mut before = words.iter().take_while(|word| *word != "--");
+    before.any(|word| word == "-h" || word == "--help")
 }
 
 fn usage(line: String) -> CommandFailed {
@@ -166,7 +189,7 @@ fn test(verb: &[&str], words: &[String]) -> Result<u8, CommandFailed> {
         is_aside: false,
     };
     let (workspace, status) = run.start()?;
-    keep_words(&workspace, &run.words);
+    keep_words(&workspace, &run);
     let reports = journals::all(&workspace);
     let count = reports
         .iter()
@@ -188,9 +211,18 @@ fn kept_words(workspace: &Workspace) -> PathBuf {
     workspace.state().join("words")
 }
 
-fn keep_words(workspace: &Workspace, words: &Words) {
+fn keep_words(workspace: &Workspace, run: &CommandRun) {
+    let speaker = match run.verb {
+        ["nextest", ..] => Speaker::Nextest,
+        _ => Speaker::Cargo,
+    };
+    let mut words = run.words.of_build(speaker);
+    if run.words.before.iter().any(|word| word == DEBUG_VALUES) {
+        words.push(DEBUG_VALUES.to_string());
+    }
+    let words = words.join("\n");
     // Without them, a replay is built as if none had been given.
-    let _ = fs::write(kept_words(workspace), words.of_build().join("\n"));
+    let _ = fs::write(kept_words(workspace), words);
 }
 
 /// Splits off the test that is named first.
@@ -212,6 +244,7 @@ fn replay(words: &[String]) -> Result<u8, CommandFailed> {
     say_others(&journal, &others);
     let mut variables = variables(&mut given);
     variables.push(("YOVANELUM_REPLAY", journal.path.clone().into()));
+    variables.extend(journal.has_points().then(|| (POINTS, "all".into())));
     alone(&workspace, &journal.test, journal.words(), given, variables).status()
 }
 
@@ -381,6 +414,8 @@ fn of_journal(verb: &str, words: &[String]) -> Result<u8, CommandFailed> {
         None if verb == "why" && !is_short => all.push("--sources".into()),
         None => {}
     }
+    let no_picture = given.before.iter().find(|word| *word == NO_PICTURE);
+    all.extend(no_picture.map(OsString::from));
     let mut out = io::stdout().lock();
     Ok(yovanelum::command(all, PAGE, &mut out, &mut io::stderr()))
 }
@@ -401,6 +436,11 @@ fn completions(words: &[String]) -> Result<u8, CommandFailed> {
 
 /// Removes all that this crate has written into the folder of the build.
 fn clean(words: &Words) -> Result<u8, CommandFailed> {
+    // Who names a test doesn't want all others to be removed.
+    let (name, _) = options::read(&words.before, Speaker::Cargo);
+    if !name.is_empty() {
+        return Err(usage(format!("unexpected argument `{name}`")));
+    }
     let own = Workspace::without_packages(words)?.own();
     match fs::remove_dir_all(&own) {
         Err(error) if error.kind() != io::ErrorKind::NotFound => {

@@ -1,9 +1,12 @@
 //! A run of cargo's, with the package in tokio's place.
 
 use super::lock::Lock;
+use super::points::POINTS;
+use super::stand_in::{Build, ShownValues};
 use super::words::Words;
 use super::workspace::{CommandFailed, Package, Workspace, cargo};
 use super::{signals, stand_in};
+use std::env;
 use std::ffi::OsString;
 use std::path::PathBuf;
 use std::process::{Command, ExitStatus};
@@ -11,10 +14,17 @@ use std::process::{Command, ExitStatus};
 /// The variable by which tests learn that this command runs them.
 const COMMAND: &str = "YOVANELUM_COMMAND";
 
+/// The option by which values of any type have texts.
+pub const DEBUG_VALUES: &str = "--debug-values";
+
+/// The variable by which a stable compiler takes what is unstable, in the crates that it names.
+const UNSTABLE_IN: &str = "RUSTC_BOOTSTRAP";
+
 /// A command of cargo's.
 pub struct CommandRun<'a> {
     /// Its words before those of the user, such as `test`.
     pub verb: &'a [&'a str],
+    /// Those of the user, with [`DEBUG_VALUES`] if that is among them.
     pub words: Words,
     /// What is set for it beside.
     pub variables: Vec<(&'a str, OsString)>,
@@ -31,16 +41,24 @@ impl CommandRun<'_> {
     /// Returns an error where there is no workspace, or something can't be written or started.
     pub fn start(&self) -> Result<(Workspace, u8), CommandFailed> {
         signals::keep();
-        let workspace = Workspace::without_packages(&self.words)?;
-        let path = self.words.value_of(&["--lockfile-path"]).map(PathBuf::from);
+        let mut words = self.words.clone();
+        let mut values = ShownValues::Known;
+        // A replay has those of its run too.
+        while words.take_alone(DEBUG_VALUES) {
+            values = ShownValues::Debug;
+        }
+        let workspace = Workspace::without_packages(&words)?;
+        let path = words.value_of(&["--lockfile-path"]).map(PathBuf::from);
         let path = path.unwrap_or_else(|| workspace.root.join("Cargo.lock"));
         let folder = workspace.state();
         let not_put = |error| CommandFailed::new(format!("{}: {error}", path.display()));
         let mut lock = Lock::take(path.clone(), &folder).map_err(not_put)?;
-        let workspace = Workspace::with_packages(&self.words)?;
+        let workspace = Workspace::with_packages(&words)?;
         let config = match tokio_of(&workspace) {
             Ok(tokio) => {
-                let config = stand_in::write(&workspace, tokio)?;
+                let has_points = self.has_points();
+                let build = Build { values, has_points };
+                let config = stand_in::write(&workspace, tokio, build)?;
                 let source = tokio.source.as_deref().unwrap_or_default();
                 lock.replace_tokio(&tokio.version, source)
                     .map_err(not_put)?;
@@ -52,11 +70,20 @@ impl CommandRun<'_> {
                 None
             }
         };
-        let status = self.cargo(config);
+        let status = self.cargo(&words, config, values);
         drop(lock);
         let status = status
             .map_err(|error| CommandFailed::new(format!("cargo can't be started: {error}")))?;
         Ok((workspace, code(status)))
+    }
+
+    /// Whether calls of tokio's own are to be steps of a run that is explored.
+    fn has_points(&self) -> bool {
+        let mut set = self.variables.iter();
+        let set = set.find(|(name, _)| *name == POINTS);
+        let set = set.map(|(_, value)| value.clone());
+        set.or_else(|| env::var_os(POINTS))
+            .is_some_and(|it| it == "all")
     }
 
     /// Runs the command, and returns its status.
@@ -68,28 +95,47 @@ impl CommandRun<'_> {
         self.start().map(|(_, status)| status)
     }
 
-    fn cargo(&self, config: Option<PathBuf>) -> std::io::Result<ExitStatus> {
+    fn cargo(
+        &self,
+        words: &Words,
+        config: Option<PathBuf>,
+        values: ShownValues,
+    ) -> std::io::Result<ExitStatus> {
         let mut command = Command::new(cargo());
         command.args(self.verb);
         if let Some(config) = config {
             command
                 .arg("--config")
                 .arg(config)
-                .args(self.words.over_another_lock());
+                .args(words.over_another_lock());
         } else {
-            command.args(&self.words.before);
+            command.args(&words.before);
         }
-        command.args(&self.words.behind).env(COMMAND, "1");
+        command.args(&words.behind).env(COMMAND, "1");
+        if values == ShownValues::Debug {
+            let before = env::var(UNSTABLE_IN).unwrap_or_default();
+            command.env(UNSTABLE_IN, unstable_in(&before));
+        }
         for (name, value) in &self.variables {
             command.env(name, value);
         }
         if self.is_aside {
             command.stdout(std::io::stderr());
         }
+        signals::end_with_this(&mut command);
         if signals::has_come() {
             return Err(std::io::Error::from(std::io::ErrorKind::Interrupted));
         }
         signals::wait(&mut command.spawn()?)
+    }
+}
+
+/// Returns in which crates the compiler takes what is unstable: in this one too. `1` says in all.
+fn unstable_in(before: &str) -> String {
+    match before {
+        "" => "yovanelum".to_string(),
+        "1" => "1".to_string(),
+        crates => format!("{crates},yovanelum"),
     }
 }
 
@@ -180,6 +226,13 @@ mod tests {
             ("1.24.2", Some(REGISTRY), "x"),
         ]);
         assert_eq!(tokio_of(&one).unwrap().version, "1.24.2");
+    }
+
+    #[test]
+    fn what_is_unstable_is_taken_in_this_crate_too() {
+        for (before, wanted) in [("", "yovanelum"), ("1", "1"), ("a,b", "a,b,yovanelum")] {
+            assert_eq!(unstable_in(before), wanted);
+        }
     }
 
     #[test]

@@ -2,7 +2,7 @@
 //! cargo has ended.
 
 use std::io;
-use std::process::{Child, ExitStatus};
+use std::process::{Child, Command, ExitStatus};
 use std::thread;
 use std::time::{Duration, Instant};
 
@@ -41,6 +41,39 @@ pub fn has_come() -> bool {
 }
 
 pub use of_system::{keep, runs};
+
+/// Has a command end where this process is killed, which nothing can note: else cargo would go on
+/// over a lock file that the next run puts back. Systems other than Linux know no such thing.
+#[cfg(not(target_os = "linux"))]
+pub fn end_with_this(_command: &mut Command) {}
+
+/// Has a command end where this process is killed, which nothing can note: else cargo would go on
+/// over a lock file that the next run puts back.
+#[cfg(target_os = "linux")]
+pub fn end_with_this(command: &mut Command) {
+    use std::os::unix::process::{CommandExt, parent_id};
+
+    /// Of `prctl`: which signal a process gets when its parent ends.
+    const PR_SET_PDEATHSIG: i32 = 1;
+    const SIGTERM: usize = 15;
+
+    unsafe extern "C" {
+        fn prctl(option: i32, ...) -> i32;
+    }
+    let this = std::process::id();
+    let ask = move || {
+        // SAFETY: it sets a number of the process, which a child may between `fork` and `exec`.
+        unsafe { prctl(PR_SET_PDEATHSIG, SIGTERM) };
+        // This one may have ended before.
+        if parent_id() == this {
+            Ok(())
+        } else {
+            Err(io::Error::from(io::ErrorKind::Interrupted))
+        }
+    };
+    // SAFETY: it makes two system calls and allocates nothing.
+    unsafe { command.pre_exec(ask) };
+}
 
 #[cfg(unix)]
 mod of_system {

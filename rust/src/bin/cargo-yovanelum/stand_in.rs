@@ -4,6 +4,7 @@
 use super::lacking;
 use super::lock::REGISTRY;
 use super::manifest::{by_git, of_version};
+use super::points;
 use super::workspace::{CommandFailed, Package, Workspace};
 use std::fmt::Write;
 use std::path::{Path, PathBuf};
@@ -17,6 +18,41 @@ const CRATES_IO: [&str; 2] = [
     "registry+https://github.com/rust-lang/crates.io-index",
     "sparse+https://index.crates.io/",
 ];
+
+/// Which values have texts by themselves.
+#[derive(Clone, Copy, Debug, PartialEq, Eq)]
+pub enum ShownValues {
+    /// Those of types that this crate knows.
+    Known,
+    /// Those of all types that have `Debug`, as a feature of this crate has it.
+    Debug,
+}
+
+impl ShownValues {
+    /// Returns what the folder's name has more, so that both builds stay built.
+    fn suffix(self) -> &'static str {
+        match self {
+            ShownValues::Known => "",
+            ShownValues::Debug => "-debug-values",
+        }
+    }
+
+    /// Returns a manifest that asks for the feature, if that is wanted.
+    fn asked_for(self, manifest: String) -> String {
+        match self {
+            ShownValues::Known => manifest,
+            ShownValues::Debug => manifest.replace("[\"patch\"]", "[\"patch\", \"debug_values\"]"),
+        }
+    }
+}
+
+/// How the package that stands for tokio is built.
+#[derive(Clone, Copy, Debug)]
+pub struct Build {
+    pub values: ShownValues,
+    /// Whether calls of tokio's own channels and locks are steps.
+    pub has_points: bool,
+}
 
 /// Where this crate is taken from.
 struct Crate {
@@ -78,18 +114,25 @@ fn shown(path: &Path) -> String {
 /// # Errors
 ///
 /// Returns an error if the sources of this crate are gone, or a file can't be read or written.
-pub fn write(workspace: &Workspace, tokio: &Package) -> Result<PathBuf, CommandFailed> {
+pub fn write(
+    workspace: &Workspace,
+    tokio: &Package,
+    build: Build,
+) -> Result<PathBuf, CommandFailed> {
     let of_crate = Crate::of(workspace)?;
     let manifest = of_crate.folder.join("tokio-recorded/Cargo.toml");
-    let folder = workspace
-        .own()
-        .join("stand-in")
-        .join(format!("tokio-{}", tokio.version));
+    let stand_ins = workspace.own().join("stand-in");
+    let points = if build.has_points { "-points" } else { "" };
+    let name = format!("tokio-{}{points}", tokio.version);
+    // Both builds have the real one from the same folder. From another one it is built again.
+    let registry = stand_ins.join(&name).join("registry");
+    let folder = stand_ins.join(name + build.values.suffix());
     let written = fs::read_to_string(&manifest).and_then(|manifest| {
-        copy_sources(&tokio.folder, &folder.join("registry").join("tokio"))?;
+        copy_sources(&tokio.folder, &registry.join("tokio"), build.has_points)?;
+        let manifest = manifest_of(&manifest, tokio, &of_crate);
         put(
             &folder.join("Cargo.toml"),
-            &manifest_of(&manifest, tokio, &of_crate),
+            &build.values.asked_for(manifest),
         )?;
         let config = folder.join("config.toml");
         let lacking = if of_crate.is_own {
@@ -97,7 +140,7 @@ pub fn write(workspace: &Workspace, tokio: &Package) -> Result<PathBuf, CommandF
         } else {
             lacking::in_folder(&tokio.folder)
         };
-        put(&config, &config_of(&folder, tokio, &lacking))?;
+        put(&config, &config_of(&folder, &registry, tokio, &lacking))?;
         Ok(config)
     });
     written
@@ -136,12 +179,12 @@ fn manifest_of(manifest: &str, tokio: &Package, of_crate: &Crate) -> String {
 }
 
 /// Returns what cargo is told: the patch, where the real tokio is, and which methods it lacks.
-fn config_of(folder: &Path, tokio: &Package, lacking: &str) -> String {
+fn config_of(folder: &Path, registry: &Path, tokio: &Package, lacking: &str) -> String {
     let patched = match tokio.source.as_deref() {
         Some(source) if !CRATES_IO.contains(&source) => source.trim_start_matches("registry+"),
         _ => "crates-io",
     };
-    let folder = shown(folder);
+    let (folder, registry) = (shown(folder), shown(registry));
     let lacking = if lacking.is_empty() {
         String::new()
     } else {
@@ -150,18 +193,21 @@ fn config_of(folder: &Path, tokio: &Package, lacking: &str) -> String {
     format!(
         "[patch.\"{patched}\"]\ntokio = {{ path = \"{folder}\" }}\n\n[registries.yovanelum]\nindex = \"{REGISTRY}\"\n\n\
          [source.yovanelum]\nregistry = \"{REGISTRY}\"\nreplace-with = \"yovanelum-folder\"\n\n\
-         [source.yovanelum-folder]\ndirectory = \"{folder}/registry\"\n{lacking}"
+         [source.yovanelum-folder]\ndirectory = \"{registry}\"\n{lacking}"
     )
 }
 
-/// Copies the sources of a package, unless they were.
-fn copy_sources(from: &Path, to: &Path) -> io::Result<()> {
+/// Copies the sources of tokio, unless they were. `has_points` adds steps to them.
+fn copy_sources(from: &Path, to: &Path, has_points: bool) -> io::Result<()> {
     const SUMS: &str = ".cargo-checksum.json";
     if to.join(SUMS).is_file() {
         return Ok(());
     }
     let beside = to.with_extension(format!("{}.part", process::id()));
     copy_folder(from, &beside)?;
+    if has_points {
+        points::add(&beside)?;
+    }
     // Cargo asks for it. No file is compared with a checksum: cargo did that when it fetched them.
     fs::write(beside.join(SUMS), "{\"files\":{}}")?;
     let _ = fs::remove_dir_all(to);
@@ -231,7 +277,7 @@ mod tests {
     #[test]
     fn the_patch_is_of_the_registry_that_tokio_comes_from() {
         let head = |source| {
-            let config = config_of(Path::new("/s"), &tokio(source), "");
+            let config = config_of(Path::new("/s"), Path::new("/r"), &tokio(source), "");
             config.lines().next().unwrap().to_string()
         };
         assert_eq!(head(CRATES_IO[0]), "[patch.\"crates-io\"]");

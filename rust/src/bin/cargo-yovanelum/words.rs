@@ -1,36 +1,9 @@
 //! The words behind `cargo yovanelum test`, which are cargo's own: what this command has to know of
 //! them, and no more.
 
-/// Options of cargo's whose value is the next word, unless `=` is in theirs, and that choose what
-/// is built. What chooses tests isn't among them.
-const OF_BUILD: [&str; 12] = [
-    "--config",
-    "--features",
-    "-F",
-    "--profile",
-    "--cargo-profile",
-    "--target",
-    "--target-dir",
-    "--manifest-path",
-    "--lockfile-path",
-    "-Z",
-    "-C",
-    "--color",
-];
+use super::options::{self, Speaker};
 
-/// The same, without a value.
-const OF_BUILD_ALONE: [&str; 8] = [
-    "--release",
-    "-r",
-    "--all-features",
-    "--no-default-features",
-    "--locked",
-    "--offline",
-    "--frozen",
-    "--ignore-rust-version",
-];
-
-/// Those of them that `cargo metadata` takes too.
+/// The options of the build that `cargo metadata` takes too.
 const OF_METADATA: [&str; 11] = [
     "--config",
     "--features",
@@ -101,39 +74,20 @@ impl Words {
 
     /// Returns the options by which `cargo metadata` sees the same workspace.
     pub fn of_metadata(&self) -> Vec<String> {
-        self.options(&OF_METADATA, &OF_METADATA)
+        let (_, options) = options::read(&self.before, Speaker::Cargo);
+        let asked = options
+            .into_iter()
+            .filter(|option| OF_METADATA.contains(&option.name.as_str()));
+        asked.flat_map(|option| option.words).collect()
     }
 
     /// Returns the options that choose what is built, for another command about the same build.
-    pub fn of_build(&self) -> Vec<String> {
-        self.options(&OF_BUILD, &OF_BUILD_ALONE)
-    }
-
-    /// Returns the options with a value that have one of these names, and those without one that
-    /// have one of the others.
-    fn options(&self, with_value: &[&str], alone: &[&str]) -> Vec<String> {
-        let mut found = vec![];
-        let mut words = self.before.iter();
-        while let Some(word) = words.next() {
-            let name = word.split_once('=').map_or(word.as_str(), |(name, _)| name);
-            let has_value = OF_BUILD.contains(&name);
-            let value = if has_value && name == word {
-                words.next()
-            } else {
-                None
-            };
-            let is_joined = ["-F", "-Z"]
-                .iter()
-                .any(|short| with_value.contains(short) && word.starts_with(short));
-            if has_value && with_value.contains(&name)
-                || alone.contains(&word.as_str()) && !has_value
-                || is_joined
-            {
-                found.push(word.clone());
-                found.extend(value.cloned());
-            }
-        }
-        found
+    pub fn of_build(&self, speaker: Speaker) -> Vec<String> {
+        let (_, options) = options::read(&self.before, speaker);
+        options
+            .into_iter()
+            .flat_map(|option| option.words)
+            .collect()
     }
 
     /// Returns the words for a lock file in which tokio is replaced: it isn't the workspace's,
@@ -189,10 +143,10 @@ mod tests {
             "-p shop --release --features=a,b --test orders -Fc --locked --target x no_order -- --exact",
         );
         assert_eq!(
-            given.of_build().join(" "),
-            "--release --features=a,b -Fc --locked --target x"
+            given.of_build(Speaker::Cargo).join(" "),
+            "--release --features a,b -Fc --locked --target x"
         );
-        assert_eq!(given.of_metadata().join(" "), "--features=a,b -Fc --locked");
+        assert_eq!(given.of_metadata().join(" "), "--features a,b -Fc --locked");
     }
 
     #[test]

@@ -2,6 +2,7 @@
 
 use super::caller::name_of_future;
 use crate::channels::turns::explored;
+use crate::channels::whereabouts::SeenPolls;
 use std::cell::{Cell, RefCell};
 use std::sync::Arc;
 use std::sync::atomic::{AtomicBool, Ordering};
@@ -15,8 +16,8 @@ pub(crate) fn is_over_facade() -> bool {
     IS_OVER_FACADE.load(Ordering::Relaxed)
 }
 
-/// Notes that the package that stands for tokio spawns a task.
-pub(super) fn note_facade() {
+/// Notes that the package that stands for tokio spawns a task, or has a call of tokio's own chosen.
+pub(crate) fn note_facade() {
     IS_OVER_FACADE.store(true, Ordering::Relaxed);
 }
 
@@ -32,14 +33,31 @@ pub(crate) fn is_in_task() -> bool {
     IS_IN_TASK.get() || name_of_future().is_some()
 }
 
-/// Returns the outermost task that this thread has polled or dropped last.
+/// Returns the outermost task that this thread has polled or dropped last. At the end of a thread
+/// it may be forgotten.
 pub(crate) fn last_task() -> Option<Arc<str>> {
-    TASK.with_borrow(Clone::clone)
+    let last = TASK.try_with(|last| last.borrow().clone());
+    last.ok().flatten()
 }
 
 /// Notes that this thread polls or drops this task, within no other.
 pub(crate) fn set_last_task(task: &Arc<str>) {
-    TASK.set(Some(task.clone()));
+    drop(replace_last_task(Some(task.clone())));
+}
+
+/// Returns the task that was the last one before.
+fn replace_last_task(task: Option<Arc<str>>) -> Option<Arc<str>> {
+    let before = TASK.try_with(|last| last.replace(task));
+    before.ok().flatten()
+}
+
+/// Tells the run that is explored where this task waits, if this process is one.
+pub(super) fn note_wait(task: Option<&Arc<str>>, seen: &SeenPolls) {
+    if let (Some(task), Some(run)) = (task, explored()) {
+        if let Some(place) = seen.waits_at() {
+            run.tasks.waits(task, place);
+        }
+    }
 }
 
 /// A task that nobody named, whose polls a run that is explored chooses.
@@ -57,6 +75,11 @@ impl ExploredTask {
     /// Whether this poll of the task is held back. Then the task is woken later.
     pub(super) fn is_held(&mut self, context: &Context<'_>) -> bool {
         explored().is_some_and(|run| run.tasks.hold(&mut self.task, &self.name, context))
+    }
+
+    /// The name that no other caller has, once it was polled.
+    pub(super) fn task(&self) -> Option<&Arc<str>> {
+        self.task.as_ref()
     }
 
     /// Makes the calls of this thread those of the task, until what this returns is dropped.
@@ -88,7 +111,7 @@ impl InTask {
         } else {
             InTask {
                 was_in_task: IS_IN_TASK.replace(true),
-                before: TASK.replace(Some(task.clone())),
+                before: replace_last_task(Some(task.clone())),
             }
         }
     }
@@ -97,6 +120,6 @@ impl InTask {
 impl Drop for InTask {
     fn drop(&mut self) {
         IS_IN_TASK.set(self.was_in_task);
-        TASK.set(self.before.take());
+        drop(replace_last_task(self.before.take()));
     }
 }

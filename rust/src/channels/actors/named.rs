@@ -1,10 +1,11 @@
 //! Futures whose calls are recorded under a name of their own.
 
 use super::caller::dropping;
+use super::explored::note_wait;
 use super::own::OwnCaller;
 use crate::channels::budget::Budgeted;
 use crate::channels::turns::{explored, holds};
-use crate::channels::whereabouts::BlockedSlot;
+use crate::channels::whereabouts::SeenPolls;
 use std::future::Future;
 use std::pin::Pin;
 use std::sync::Arc;
@@ -38,7 +39,7 @@ pub fn named<F: Future>(name: &str, future: F) -> Named<F> {
     Named {
         caller: OwnCaller::named(name),
         explored: None,
-        seen: BlockedSlot::default(),
+        seen: SeenPolls::default(),
         future: Some(Box::pin(future)),
     }
 }
@@ -66,7 +67,7 @@ pub struct Named<F> {
     caller: OwnCaller,
     // Its name in a run that is explored, where no other task has it.
     explored: Option<Arc<str>>,
-    seen: BlockedSlot,
+    seen: SeenPolls,
     // `None` once this is dropped.
     future: Option<Pin<Box<F>>>,
 }
@@ -93,8 +94,13 @@ impl<F: Future> Future for Named<F> {
         let this = &mut *self;
         let _entered = this.caller.enter();
         let future = this.future.as_mut().expect("a future that is alive");
-        this.seen
-            .poll(context, |context| future.as_mut().poll(context))
+        let polled = this
+            .seen
+            .poll_task(context, |context| future.as_mut().poll(context));
+        if polled.is_pending() {
+            note_wait(this.explored.as_ref(), &this.seen);
+        }
+        polled
     }
 }
 
@@ -106,7 +112,7 @@ impl<F> Drop for Named<F> {
             run.tasks.leave(task);
         }
         let _entered = self.caller.enter();
-        dropping(|| self.future = None);
+        dropping(|| self.seen.drop_future(|| self.future = None));
     }
 }
 

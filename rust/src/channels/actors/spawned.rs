@@ -2,12 +2,12 @@
 //! they come from.
 
 use super::caller::dropping;
-use super::explored::{ExploredTask, note_facade};
+use super::explored::{ExploredTask, note_facade, note_wait};
 use super::origin::{Origin, spawned_at};
 use super::own::OwnCaller;
 use crate::channels::recorder::is_any_entered;
 use crate::channels::turns::{explored, holds_task};
-use crate::channels::whereabouts::{BlockedSlot, run_whole};
+use crate::channels::whereabouts::{SeenPolls, run_whole};
 use std::any;
 use std::fmt;
 use std::panic::Location;
@@ -25,7 +25,7 @@ pub struct SpawnedTask {
     caller: OwnCaller,
     // In a run that is explored.
     explored: Option<Box<ExploredTask>>,
-    seen: BlockedSlot,
+    seen: SeenPolls,
 }
 
 /// Returns what a task is that is spawned where the caller is called. There is none for a future
@@ -84,7 +84,7 @@ impl SpawnedTask {
         SpawnedTask {
             caller: OwnCaller::task(origin),
             explored,
-            seen: BlockedSlot::default(),
+            seen: SeenPolls::default(),
         }
     }
 
@@ -100,7 +100,12 @@ impl SpawnedTask {
         }
         let _within = self.explored.as_ref().and_then(|task| task.enter());
         let _entered = self.caller.enter();
-        self.seen.poll(context, poll)
+        let polled = self.seen.poll_task(context, poll);
+        if polled.is_pending() {
+            let task = self.explored.as_ref().and_then(|task| task.task());
+            note_wait(task, &self.seen);
+        }
+        polled
     }
 
     #[inline]
@@ -120,7 +125,7 @@ impl SpawnedTask {
         }
         let _within = self.explored.as_ref().and_then(|task| task.enter());
         let _entered = self.caller.enter();
-        dropping(drop);
+        dropping(|| self.seen.drop_future(drop));
     }
 
     /// Calls a function, which is the whole task.

@@ -1,5 +1,6 @@
 //! Errors of the broadcast channel.
 
+use crate::channels::recorder::error_is_written;
 use std::error::Error;
 use std::fmt;
 
@@ -17,11 +18,18 @@ use std::fmt;
 /// let SendError(event) = bus.send("user created").unwrap_err();
 /// assert_eq!(event, "user created");
 /// ```
-#[derive(Debug)]
 pub struct SendError<T>(pub T);
+
+impl<T: fmt::Debug> fmt::Debug for SendError<T> {
+    fn fmt(&self, f: &mut fmt::Formatter<'_>) -> fmt::Result {
+        error_is_written(|| "SendError".to_string());
+        f.debug_tuple("SendError").field(&self.0).finish()
+    }
+}
 
 impl<T> fmt::Display for SendError<T> {
     fn fmt(&self, f: &mut fmt::Formatter<'_>) -> fmt::Result {
+        error_is_written(|| "SendError".to_string());
         write!(f, "channel closed")
     }
 }
@@ -54,7 +62,7 @@ impl<T: fmt::Debug> Error for SendError<T> {}
 /// assert_eq!(received, [4, 5]);
 /// assert_eq!(lost, 3);
 /// ```
-#[derive(Debug, PartialEq, Eq, Clone)]
+#[derive(PartialEq, Eq, Clone)]
 pub enum RecvError {
     /// Every sender has been dropped, and everything that was sent has been received. As in tokio,
     /// no value will ever be sent again.
@@ -64,8 +72,29 @@ pub enum RecvError {
     Lagged(u64),
 }
 
+impl RecvError {
+    /// What `{:?}` writes.
+    fn text(&self) -> String {
+        match self {
+            RecvError::Closed => "Closed".to_string(),
+            RecvError::Lagged(amt) => format!("Lagged({amt})"),
+        }
+    }
+}
+
+impl fmt::Debug for RecvError {
+    fn fmt(&self, f: &mut fmt::Formatter<'_>) -> fmt::Result {
+        error_is_written(|| self.text());
+        match self {
+            RecvError::Closed => f.write_str("Closed"),
+            RecvError::Lagged(amt) => f.debug_tuple("Lagged").field(amt).finish(),
+        }
+    }
+}
+
 impl fmt::Display for RecvError {
     fn fmt(&self, f: &mut fmt::Formatter<'_>) -> fmt::Result {
+        error_is_written(|| self.text());
         match self {
             RecvError::Closed => write!(f, "channel closed"),
             RecvError::Lagged(amt) => write!(f, "channel lagged by {amt}"),
@@ -91,7 +120,7 @@ impl Error for RecvError {}
 /// assert_eq!(chart.try_recv(), Ok(102));
 /// assert_eq!(chart.try_recv(), Err(TryRecvError::Closed));
 /// ```
-#[derive(Debug, PartialEq, Eq, Clone)]
+#[derive(PartialEq, Eq, Clone)]
 pub enum TryRecvError {
     /// There is no value to receive now. As in tokio, a sender is still alive and may send one.
     Empty,
@@ -103,8 +132,31 @@ pub enum TryRecvError {
     Lagged(u64),
 }
 
+impl TryRecvError {
+    /// What `{:?}` writes.
+    fn text(&self) -> String {
+        match self {
+            TryRecvError::Empty => "Empty".to_string(),
+            TryRecvError::Closed => "Closed".to_string(),
+            TryRecvError::Lagged(amt) => format!("Lagged({amt})"),
+        }
+    }
+}
+
+impl fmt::Debug for TryRecvError {
+    fn fmt(&self, f: &mut fmt::Formatter<'_>) -> fmt::Result {
+        error_is_written(|| self.text());
+        match self {
+            TryRecvError::Empty => f.write_str("Empty"),
+            TryRecvError::Closed => f.write_str("Closed"),
+            TryRecvError::Lagged(amt) => f.debug_tuple("Lagged").field(amt).finish(),
+        }
+    }
+}
+
 impl fmt::Display for TryRecvError {
     fn fmt(&self, f: &mut fmt::Formatter<'_>) -> fmt::Result {
+        error_is_written(|| self.text());
         match self {
             TryRecvError::Empty => write!(f, "channel empty"),
             TryRecvError::Closed => write!(f, "channel closed"),

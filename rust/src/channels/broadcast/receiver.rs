@@ -2,7 +2,7 @@
 
 use super::BroadcastHandle;
 use super::error::{RecvError, TryRecvError};
-use super::values::Value;
+use super::values::{Value, Values};
 use crate::channels::block_on::block_on;
 use crate::channels::channel::{CallSite, CoreChannel, LockedChannel, call_site};
 use crate::channels::events::Event;
@@ -14,7 +14,7 @@ use crate::channels::wakers::WakeAtEnd;
 use crate::run::operation::Operation;
 use crate::run::reply::Reply;
 use std::fmt;
-use std::future::Future;
+use std::future::{Future, poll_fn};
 use std::task::{Context, Poll};
 
 /// The receiving half of a broadcast channel.
@@ -177,12 +177,18 @@ impl<T> Receiver<T> {
         self.sender_strong_count() == 0
     }
 
-    fn attempt_recv(&self, channel: &mut LockedChannel<'_>) -> Poll<Received<T>> {
+    /// Attempts to receive. A value is stored in `value`, so that what is returned is small.
+    fn attempt_recv(
+        &self,
+        channel: &mut LockedChannel<'_>,
+        value: &mut Option<Value<T>>,
+    ) -> Poll<Received> {
         let reply = channel.call(CoreChannel::broadcast_recv);
         reply.received().map(|received| match received {
             Ok(number) => {
                 channel.note_receive(self.handle.slot);
-                Ok(self.received_value(channel, number))
+                self.store_received(channel, number, value);
+                Ok(())
             }
             Err(RecvError::Lagged(lost)) => {
                 let event = channel.note_lag(self.handle.slot, lost);
@@ -192,10 +198,45 @@ impl<T> Receiver<T> {
         })
     }
 
-    #[inline(always)]
-    fn received_value(&self, channel: &mut LockedChannel<'_>, number: u64) -> Value<T> {
-        let values = &self.handle.channel.values;
-        values.borrow_mut(&mut channel.state).receive(number)
+    #[cfg_attr(debug_assertions, inline(never))]
+    #[cfg_attr(not(debug_assertions), inline(always))]
+    fn store_received(
+        &self,
+        channel: &mut LockedChannel<'_>,
+        number: u64,
+        value: &mut Option<Value<T>>,
+    ) {
+        let values = self.handle.channel.values.borrow_mut(&mut channel.state);
+        *value = Some(if Values::<T>::ARE_LARGE {
+            Value::Shared(values.receive_large(number))
+        } else {
+            values.receive(number)
+        });
+    }
+
+    /// Returns a clone of the value that was sent with this number, once the channel is unlocked.
+    #[cfg_attr(debug_assertions, inline(never))]
+    #[cfg_attr(not(debug_assertions), inline(always))]
+    fn clone_received(&self, mut channel: LockedChannel<'_>, number: u64, has_wait: bool) -> T
+    where
+        T: Clone,
+    {
+        let values = self.handle.channel.values.borrow_mut(&mut channel.state);
+        let value = values.receive(number);
+        channel.unlock_after(has_wait, self.handle.slot);
+        value.cloned()
+    }
+
+    /// As [`clone_received`](Receiver::clone_received), of a large value.
+    #[inline(never)]
+    fn clone_large(&self, mut channel: LockedChannel<'_>, number: u64, has_wait: bool) -> T
+    where
+        T: Clone,
+    {
+        let values = self.handle.channel.values.borrow_mut(&mut channel.state);
+        let value = values.receive_large(number);
+        channel.unlock_after(has_wait, self.handle.slot);
+        value.with(T::clone)
     }
 }
 
@@ -285,12 +326,15 @@ impl<T: Clone> Receiver<T> {
 
     /// Receives the next value for this method.
     async fn recv_by(&mut self, method: Method) -> Result<T, RecvError> {
-        let received = self
-            .handle
-            .wait(WaitFor::Value, Operation::Recv, method, |channel| {
-                self.attempt_recv(channel)
-            });
-        received_by(received.await)
+        let (word, pending) = (Operation::Recv, Pending::default());
+        let mut waiting = self.handle.waiting(WaitFor::Value, word, method, pending);
+        // The value is no part of the future, which so is `Sync` also where the value isn't.
+        poll_fn(|context| {
+            let mut value = None;
+            let received = waiting.poll(context, |channel| self.attempt_recv(channel, &mut value));
+            received.map(|received| received_by(received, &value))
+        })
+        .await
     }
 
     /// [`recv`](Receiver::recv) without a future. Between polls the caller holds the state of the
@@ -305,15 +349,16 @@ impl<T: Clone> Receiver<T> {
             name: "recv",
             called_at,
         };
+        let mut value = None;
         let received = self.handle.poll_wait(
             WaitFor::Value,
             Operation::Recv,
             method,
             pending,
             context,
-            |channel| self.attempt_recv(channel),
+            |channel| self.attempt_recv(channel, &mut value),
         );
-        received.map(received_by)
+        received.map(|received| received_by(received, &value))
     }
 
     /// Receives the next value if there is one, without waiting.
@@ -344,18 +389,20 @@ impl<T: Clone> Receiver<T> {
     pub fn try_recv(&mut self) -> Result<T, TryRecvError> {
         let mut channel = self.handle.lock(Operation::TryRecv, call_site());
         let reply = channel.call(CoreChannel::broadcast_try_recv);
-        if let Reply::Lagged(lost) = reply {
-            let event = channel.note_lag(self.handle.slot, lost);
-            channel.unlock();
-            drop(event);
-            return Err(TryRecvError::Lagged(lost));
-        }
-        let number = reply.received_at_once()?;
-        let slot = self.handle.slot;
-        channel.note_receive(slot);
-        let value = self.received_value(&mut channel, number);
-        channel.unlock_without_wait(slot);
-        Ok(value.cloned())
+        let Reply::Value(number) = reply else {
+            if let Reply::Lagged(lost) = reply {
+                let event = channel.note_lag(self.handle.slot, lost);
+                channel.unlock();
+                drop(event);
+            }
+            return Err(reply.not_received());
+        };
+        let has_wait = channel.note_receive(self.handle.slot);
+        Ok(if Values::<T>::ARE_LARGE {
+            self.clone_large(channel, number, has_wait)
+        } else {
+            self.clone_received(channel, number, has_wait)
+        })
     }
 
     /// Receives the next value, and blocks the current thread until there is one.
@@ -385,13 +432,14 @@ impl<T: Clone> Receiver<T> {
     }
 }
 
-/// What a receive returns while the channel is locked. The event is dropped once it no longer is.
-type Received<T> = Result<Value<T>, (RecvError, Event)>;
+/// What a receive returns while the channel is locked, beside the value. The event is dropped once
+/// it no longer is.
+type Received = Result<(), (RecvError, Event)>;
 
 /// Returns what a receive returns to its caller, and tells of the event, if there is one.
-fn received_by<T: Clone>(received: Received<T>) -> Result<T, RecvError> {
+fn received_by<T: Clone>(received: Received, value: &Option<Value<T>>) -> Result<T, RecvError> {
     match received {
-        Ok(value) => Ok(value.cloned()),
+        Ok(()) => Ok(value.as_ref().expect("a value was received").cloned()),
         Err((error, event)) => {
             drop(event);
             Err(error)

@@ -1,14 +1,15 @@
 //! The sending half of a broadcast channel.
 
 use super::error::SendError;
+use super::values::Values;
 use super::{BroadcastHandle, Receiver, WeakSender, open};
-use crate::channels::channel::{CoreChannel, call_site};
+use crate::channels::channel::{CoreChannel, LockedChannel, call_site};
 use crate::channels::handle::Kind;
 use crate::channels::of_version::only_if_tokio_has;
 use crate::channels::recorder::{Handle, RecordedHandle, TextOf};
 use crate::channels::wait::{Method, WaitFor};
-use crate::core::source::rw_waiting::Notice;
 use crate::run::operation::Operation;
+use crate::run::reply::Reply;
 use std::fmt;
 use std::future::Future;
 use std::task::Poll;
@@ -127,11 +128,42 @@ impl<T> Sender<T> {
         let Some(receivers) = reply.sent() else {
             return Err(SendError(value));
         };
+        if Values::<T>::ARE_LARGE {
+            self.store_large(channel, (number, receivers), value, reply);
+        } else {
+            self.store(channel, (number, receivers), value, reply);
+        }
+        Ok(receivers as usize)
+    }
+
+    /// Stores a value that was sent by this number to this many receivers, with this reply. As in
+    /// tokio, the one that it overwrites is dropped before those who wait are woken.
+    #[cfg_attr(debug_assertions, inline(never))]
+    #[cfg_attr(not(debug_assertions), inline(always))]
+    fn store(
+        &self,
+        mut channel: LockedChannel<'_>,
+        (number, receivers): (u64, u64),
+        value: T,
+        reply: Reply,
+    ) {
         let values = self.handle.channel.values.borrow_mut(&mut channel.state);
         let overwritten = values.push(number, value, receivers);
-        // As in tokio, the overwritten value is dropped before those who wait are woken.
-        channel.unlock_drop_and_wake(overwritten, Notice::Sent);
-        Ok(receivers as usize)
+        channel.unlock_drop_and_wake(overwritten, reply);
+    }
+
+    /// As [`store`](Sender::store), of a large value.
+    #[inline(never)]
+    fn store_large(
+        &self,
+        mut channel: LockedChannel<'_>,
+        (number, receivers): (u64, u64),
+        value: T,
+        reply: Reply,
+    ) {
+        let values = self.handle.channel.values.borrow_mut(&mut channel.state);
+        let overwritten = values.push_large(number, value, receivers);
+        channel.unlock_drop_and_wake(overwritten, reply);
     }
 
     /// Creates a receiver, which receives the values that are sent after this call.

@@ -1,12 +1,20 @@
 //! The values of a broadcast. The core knows only their numbers. By these they are in a proved
 //! store, which gives each of them back when no receiver has yet to receive it.
+//!
+//! A value is stored in its place there. A large one is on the heap from its send on, so that it
+//! isn't moved from one part of a call to the next: without optimization each would have it on its
+//! stack.
 
+use crate::channels::in_place::arc_of;
 use crate::channels::reentrant::Reentrant;
 use crate::core::shim::{Vec as CoreVec, alloc::Global};
 use crate::core::source::rw_law::NoMemory;
 use crate::core::source::rw_values;
 use std::alloc::{Layout, handle_alloc_error};
 use std::sync::Arc;
+
+/// A value of more bytes is stored on the heap.
+const LARGE: usize = 1024;
 
 /// A value that receivers have yet to receive.
 pub(super) enum Value<T> {
@@ -31,7 +39,7 @@ impl<T: Clone> Value<T> {
     /// Returns a clone, also for the last receiver, as in tokio. The original is dropped with its
     /// last `Value`.
     #[inline]
-    pub(super) fn cloned(self) -> T {
+    pub(super) fn cloned(&self) -> T {
         match self {
             Value::Own(value) => value.clone(),
             Value::Shared(value) => value.with(T::clone),
@@ -39,35 +47,80 @@ impl<T: Clone> Value<T> {
     }
 }
 
+/// A large value, for all of its receivers.
+pub(super) type LargeValue<T> = Arc<Reentrant<T>>;
+
 /// The values that a receiver may still receive.
-pub(super) struct Values<T>(rw_values::Values<Value<T>>);
+pub(super) struct Values<T> {
+    small: rw_values::Values<Value<T>>,
+    // Of values that are large.
+    large: Option<Box<rw_values::Values<LargeValue<T>>>>,
+}
 
 impl<T> Values<T> {
     /// Creates an empty store of as many values as the channel retains. Memory is allocated as they
     /// are sent.
     pub(super) fn new(capacity: usize) -> Values<T> {
-        Values(rw_values::Values::new(Global, capacity.next_power_of_two()))
+        let capacity = capacity.next_power_of_two();
+        let large = || Box::new(rw_values::Values::new(Global, capacity));
+        Values {
+            small: rw_values::Values::new(Global, capacity),
+            large: Values::<T>::ARE_LARGE.then(large),
+        }
+    }
+
+    /// Whether values are large. The functions for large ones are for these alone.
+    pub(super) const ARE_LARGE: bool = size_of::<T>() > LARGE;
+
+    #[inline]
+    fn large(&mut self) -> &mut rw_values::Values<LargeValue<T>> {
+        self.large.as_mut().expect("a channel of large values")
     }
 
     /// Stores a value that was sent to this many receivers. Its number is greater than those before
     /// by one, or by more where sends failed in between, which had no receivers. Returns the value
     /// that it overwrites, to be dropped while no lock is held.
-    #[inline(always)]
+    #[cfg_attr(debug_assertions, inline(never))]
+    #[cfg_attr(not(debug_assertions), inline(always))]
     pub(super) fn push(&mut self, number: u64, value: T, receivers: u64) -> Option<Value<T>> {
-        self.0.ready().unwrap_or_else(no_memory);
+        self.small.ready().unwrap_or_else(no_memory);
         let value = match receivers {
             1 => Value::Own(value),
             _ => Value::Shared(Arc::new(Reentrant::new(value))),
         };
-        self.0.put(number, value, receivers)
+        self.small.put(number, value, receivers)
+    }
+
+    /// As [`push`](Values::push), of a large value.
+    #[inline(never)]
+    pub(super) fn push_large(
+        &mut self,
+        number: u64,
+        value: T,
+        receivers: u64,
+    ) -> Option<LargeValue<T>> {
+        let values = self.large();
+        values.ready().unwrap_or_else(no_memory);
+        values.put(number, arc_of(Reentrant::new(value)), receivers)
     }
 
     /// Returns the value with this number, for a receiver that has yet to receive it.
-    #[inline(always)]
+    #[cfg_attr(debug_assertions, inline(never))]
+    #[cfg_attr(not(debug_assertions), inline(always))]
     pub(super) fn receive(&mut self, number: u64) -> Value<T> {
-        match self.0.receive(number) {
+        match self.small.receive(number) {
             Some(value) => value,
-            None => self.0.value(number).share(),
+            None => self.small.value(number).share(),
+        }
+    }
+
+    /// As [`receive`](Values::receive), of a large value.
+    #[inline(never)]
+    pub(super) fn receive_large(&mut self, number: u64) -> LargeValue<T> {
+        let values = self.large();
+        match values.receive(number) {
+            Some(value) => value,
+            None => values.value(number).clone(),
         }
     }
 
@@ -76,15 +129,18 @@ impl<T> Values<T> {
     /// receives in order.
     #[inline]
     pub(super) fn has_unread(&self) -> bool {
-        self.0.has_unread()
+        match &self.large {
+            None => self.small.has_unread(),
+            Some(large) => large.has_unread(),
+        }
     }
 
     /// Removes a dropped receiver from the counts of its unread values. Returns the values that no
     /// receiver has yet to receive.
     #[inline]
-    pub(super) fn drop_receiver(&mut self, unread: u64) -> CoreVec<Value<T>> {
+    pub(super) fn drop_receiver(&mut self, unread: u64) -> Unwanted<T> {
         match unread {
-            0 => CoreVec::new(Global),
+            0 => Unwanted::default(),
             _ => self.remove_unread(unread),
         }
     }
@@ -92,8 +148,29 @@ impl<T> Values<T> {
     /// As [`drop_receiver`](Values::drop_receiver), of a receiver that has yet to receive
     /// something.
     #[inline(never)]
-    fn remove_unread(&mut self, unread: u64) -> CoreVec<Value<T>> {
-        self.0.leave(Global, unread).unwrap_or_else(no_memory)
+    fn remove_unread(&mut self, unread: u64) -> Unwanted<T> {
+        let mut unwanted = Unwanted::default();
+        match &mut self.large {
+            None => unwanted.small = self.small.leave(Global, unread).unwrap_or_else(no_memory),
+            Some(large) => unwanted.large = large.leave(Global, unread).unwrap_or_else(no_memory),
+        }
+        unwanted
+    }
+}
+
+/// Values that no receiver has yet to receive, to be dropped while no lock is held.
+pub(super) struct Unwanted<T> {
+    small: CoreVec<Value<T>>,
+    large: CoreVec<LargeValue<T>>,
+}
+
+impl<T> Default for Unwanted<T> {
+    #[inline]
+    fn default() -> Unwanted<T> {
+        Unwanted {
+            small: CoreVec::new(Global),
+            large: CoreVec::new(Global),
+        }
     }
 }
 
@@ -118,7 +195,7 @@ mod tests {
             for number in first..end {
                 values.push(number, number * 10, 2);
                 for retained in first.max(number.saturating_sub(3))..=number {
-                    assert_eq!(values.0.value(retained).share().cloned(), retained * 10);
+                    assert_eq!(values.small.value(retained).share().cloned(), retained * 10);
                 }
             }
             for number in first.max(end.saturating_sub(4))..end {
@@ -133,7 +210,8 @@ mod tests {
     fn the_oldest_value_is_overwritten() {
         let mut values = Values::new(4);
         for number in 0..9 {
-            let overwritten = values.push(number, number * 10, 2).map(Value::cloned);
+            let overwritten = values.push(number, number * 10, 2);
+            let overwritten = overwritten.map(|value| value.cloned());
             let expected = number.checked_sub(4).map(|before| before * 10);
             assert_eq!(overwritten, expected, "at {number}");
         }
@@ -152,7 +230,7 @@ mod tests {
         assert!(values.has_unread());
         assert_eq!(alive(&kept[1]), 1, "the other has yet to receive it");
         assert_eq!(
-            values.drop_receiver(2).len(),
+            values.drop_receiver(2).small.len(),
             1,
             "the value 1, which the other has"
         );

@@ -22,6 +22,7 @@ mod tests;
 use super::machine::{MOST_HANDLES, Machine, made};
 use super::numbers::{Numbers, Place};
 use crate::channels::backend::{Caller, OpenFault, Recording, Spec};
+use crate::channels::handle::Kind;
 use crate::core::shim::Vec as CoreVec;
 use crate::core::source::rw_law::NoMemory;
 use crate::run::reply::Reply;
@@ -101,6 +102,18 @@ impl CoreChannel {
         before
     }
 
+    /// Gives the chunks of the last calls this size, or one that is nearer to it than that which
+    /// they have. Returns the size, if it has one.
+    pub(crate) fn resize_chunks(&mut self, size: usize) -> Option<usize> {
+        self.first.core.resize_chunks(size)
+    }
+
+    /// How many handles are alive of those that a chunk of the last calls copies. It copies dropped
+    /// ones too, until they are taken out, which they are before they are many more.
+    pub(crate) fn live_in_chunk(&self) -> usize {
+        self.first.alive() as usize
+    }
+
     /// Forgets the calls from before a renumbering, where enough later ones are kept. Returns
     /// whether calls are kept by the numbers of before.
     pub(crate) fn forget_past(&mut self) -> bool {
@@ -167,17 +180,33 @@ impl CoreChannel {
 
     /// How many senders are alive.
     pub(crate) fn senders(&mut self) -> u64 {
-        self.machines().map(Machine::senders).sum()
+        self.count(Machine::senders)
     }
 
     /// How many weak senders are alive.
     pub(crate) fn weak_senders(&mut self) -> u64 {
-        self.machines().map(Machine::weak_senders).sum()
+        self.count(Machine::weak_senders)
     }
 
     /// How many receivers are alive.
     pub(crate) fn receivers(&mut self) -> u64 {
-        self.machines().map(Machine::receivers).sum()
+        self.count(Machine::receivers)
+    }
+
+    /// The sum of a count of each machine.
+    #[inline(always)]
+    fn count(&mut self, count: impl Fn(&mut Machine) -> u64) -> u64 {
+        let further = self.further.iter_mut().flatten();
+        count(&mut self.first) + further.map(&count).sum::<u64>()
+    }
+
+    /// How many handles of this kind are alive.
+    pub(crate) fn alive(&mut self, kind: Kind) -> u64 {
+        match kind {
+            Kind::Sender => self.senders(),
+            Kind::WeakSender => self.weak_senders(),
+            Kind::Receiver => self.receivers(),
+        }
     }
 
     /// How many values a broadcast retains for some receiver. They are the last ones that were

@@ -1,9 +1,9 @@
 //! The last calls of a channel as they are copied for a journal, with all that its names say.
 
+use super::chunk_size::ChunkSize;
 use super::last_calls::LastCallsCopy;
-use super::{CallSite, ChannelState};
+use super::{CallSite, ChannelState, WaitNow};
 use crate::channels::backend::{Kept, MOST_CHUNK};
-use crate::channels::wait::Wait;
 use crate::core::source::rw_law::NoMemory;
 use crate::run::clock::Times;
 use crate::run::numbered::NumberMap;
@@ -24,8 +24,8 @@ pub(crate) struct NotedChannel {
     pub(crate) made_by: Option<Maker>,
     /// The names of handles, by how many were created before.
     pub(crate) names: NumberMap<u64, String>,
-    /// The calls that wait, each with its handle.
-    pub(crate) waits: Vec<(u32, Wait)>,
+    /// The calls that began to wait and had not ended, each with its handle.
+    pub(crate) waits: Vec<(u32, WaitNow)>,
     /// Whether it is a watch.
     pub(crate) is_watch: bool,
     /// How many values it retains at most.
@@ -65,13 +65,13 @@ impl NotedChannel {
 }
 
 impl ChannelState {
-    /// Keeps the last calls alone, from the opening on: `calls` of them, or a fourth of how many
-    /// values are retained, if that is more, since each chunk copies those. The channel was opened
-    /// now, and no call was made. At an error nothing has changed.
+    /// Keeps the last calls alone, from the opening on: `calls` of them, or more where a chunk
+    /// copies much. The channel was opened now, and no call was made. At an error nothing has
+    /// changed.
     pub(crate) fn fly(&mut self, calls: usize, times: Times) -> Result<(), NoMemory> {
-        let chunk = calls.max(self.retained_capacity() / 4);
-        self.core.fly(chunk)?;
-        self.set_last_calls(chunk, times, true);
+        let size = ChunkSize::new(calls);
+        self.core.fly(size.now())?;
+        self.set_last_calls(size, times, true);
         Ok(())
     }
 
@@ -80,22 +80,22 @@ impl ChannelState {
     pub(crate) fn keep_last(&mut self, times: Times) -> Result<(), NoMemory> {
         if self.is_recorded && self.keeps_all {
             self.core.keep_last(MOST_CHUNK)?;
-            self.set_last_calls(MOST_CHUNK, times, false);
+            self.set_last_calls(ChunkSize::new(MOST_CHUNK), times, false);
         }
         Ok(())
     }
 
     /// Notes the last calls by their chunks, from what is known of all calls.
-    fn set_last_calls(&mut self, chunk: usize, times: Times, is_of_flight: bool) {
+    fn set_last_calls(&mut self, size: ChunkSize, times: Times, is_of_flight: bool) {
         let capacity = self.retained_capacity();
-        let mut noted = self.noted(chunk, capacity, times);
+        let mut noted = self.noted(size, capacity, times);
         noted.begin(is_of_flight, self.sent_count());
         self.last_calls = Some(Box::new(noted));
         self.keeps_all = false;
         self.locations = Default::default();
-        self.texts = Default::default();
-        self.waited = Default::default();
-        self.cancelled = Default::default();
+        if let Some(seldom) = &mut self.seldom {
+            seldom.forget_calls();
+        }
         self.actors = 0;
     }
 
@@ -110,27 +110,33 @@ impl ChannelState {
     pub(crate) fn kept(&mut self, times: Times) -> Result<Option<KeptChannel>, NoMemory> {
         let keeps_past = self.core.keeps_past();
         let noted = match &self.last_calls {
-            Some(last) => last.copy(keeps_past)?,
+            Some(last) => LastCallsCopy {
+                last_wait: self.time_of_last_wait(),
+                ..last.copy(keeps_past)?
+            },
             None if self.core.recorded().keeps_last() => return Ok(None),
-            None => self.noted(MOST_CHUNK, usize::MAX, times).copy(false)?,
+            None => {
+                let all = ChunkSize::new(MOST_CHUNK);
+                self.noted(all, usize::MAX, times).copy(false)?
+            }
         };
         let calls = self.core.recorded().kept(MOST_CHUNK)?;
         // One by one, since `collect` would sort them in one list first.
         let mut names = NumberMap::new();
         names.extend(noted.names.iter().cloned());
-        let alive = self.handle_names.iter();
+        let alive = self.seldom().handle_names.iter();
         names.extend(alive.map(|(number, name)| (self.core.nth(*number as u32), name.clone())));
-        let waits = self.waits.items().values();
         let kept_number = |handle: u32| {
             let number = self.core.number_in_table(handle);
             let last = self.last_calls.as_ref();
             last.map_or(number, |last| last.kept_number(number, keeps_past))
         };
-        let waits = waits.map(|wait| (kept_number(wait.handle), *wait));
+        let waits = self.who_waits();
+        let waits = waits.map(|call| (kept_number(call.wait.handle), call));
         let noted = NotedChannel {
             waits: waits.collect(),
             calls: noted,
-            name: self.name.clone(),
+            name: self.seldom().name.clone(),
             made_by: self.made_by.clone(),
             names,
             is_watch: self.core.capacity().is_none(),

@@ -27,14 +27,14 @@ impl ChannelState {
             let unread = self.unread(handle);
             KnownReceiver {
                 handle,
-                name: self.handle_names.get(&handle.into()).cloned(),
+                name: self.seldom().handle_names.get(&handle.into()).cloned(),
                 lags: capacity.is_some_and(|capacity| unread > capacity),
             }
         });
         let receivers = receivers.collect();
         Known {
             number,
-            name: self.name.clone(),
+            name: self.seldom().name.clone(),
             is_watch: capacity.is_none(),
             receivers,
         }

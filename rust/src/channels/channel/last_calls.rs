@@ -2,6 +2,7 @@
 //! and when. As the core does, it keeps two chunks, and drops the older one whole.
 
 use super::CallSite;
+use super::chunk_size::ChunkSize;
 use super::locations::Locations;
 use super::made_handles::{MadeHandles, PastHandles};
 use super::sharing_callers::SharingCallers;
@@ -9,6 +10,7 @@ use crate::channels::backend::Actor;
 use crate::core::lists::reserved;
 use crate::core::source::rw_law::NoMemory;
 use crate::run::clock::{Clock, Moment, Times};
+use crate::run::sorting::sort_by_key;
 use std::collections::VecDeque;
 use std::mem;
 use std::sync::Arc;
@@ -22,13 +24,15 @@ const SHARED: Actor = Actor::LAST_CALLER;
 /// The last calls of a channel.
 pub(crate) struct LastCalls {
     // How many calls a chunk has.
-    most: usize,
+    size: ChunkSize,
     // How many values the channel retains.
     capacity: usize,
     // How many calls were made before those of the chunks.
     before: u64,
     older: Chunk,
     newer: Chunk,
+    // Until the newer chunk has as many calls, no chunk begins or ends, and the time isn't noted.
+    plain_until: usize,
     // The texts of values that were sent before, and may be retained.
     retained: VecDeque<(u64, Arc<str>)>,
     pub(super) handles: MadeHandles,
@@ -107,20 +111,23 @@ pub(crate) struct LastCallsCopy {
     pub(crate) names: Vec<(u64, String)>,
     pub(crate) handles: MadeHandles,
     pub(crate) moments: Vec<Moment>,
+    /// When the call that waits and has begun last has begun to.
+    pub(crate) last_wait: Option<Moment>,
     /// The callers who share a number, by how many calls were made before each of theirs.
     pub(crate) sharing: Vec<(u64, Arc<str>)>,
 }
 
 impl LastCalls {
-    /// Those of a channel without calls, of which each chunk has `most`, and which retains
-    /// `capacity` values.
-    pub(super) fn new(most: usize, capacity: usize, times: Times) -> LastCalls {
+    /// Those of a channel without calls, by chunks of this size. The channel retains `capacity`
+    /// values.
+    pub(super) fn new(size: ChunkSize, capacity: usize, times: Times) -> LastCalls {
         LastCalls {
-            most,
+            size,
             capacity,
             before: 0,
             older: Chunk::default(),
             newer: Chunk::default(),
+            plain_until: 0,
             retained: VecDeque::new(),
             handles: MadeHandles::default(),
             past: PastHandles::default(),
@@ -150,9 +157,9 @@ impl LastCalls {
     pub(super) fn note_sent(&mut self, sent: u64) {
         if sent > self.sent {
             self.sent = sent;
-            let before = self.newer.sites.len().checked_sub(1);
-            let sends = before.map(|before| (before as u32, self.last_actor));
-            self.newer.sends.extend(sends);
+            if let Some(before) = self.newer.sites.len().checked_sub(1) {
+                self.newer.sends.push((before as u32, self.last_actor));
+            }
         }
     }
 
@@ -177,7 +184,7 @@ impl LastCalls {
     /// there is to say of the calls is added after them.
     pub(super) fn add_all(&mut self, locations: &Locations, actors: u64) {
         for site in locations.of_calls.iter() {
-            if self.newer.sites.len() >= self.most {
+            if self.has_full_chunk() {
                 self.turn();
             }
             self.newer.sites.push(*site);
@@ -206,17 +213,42 @@ impl LastCalls {
 
     /// How many calls a chunk has.
     pub(super) fn chunk(&self) -> usize {
-        self.most
+        self.size.now()
+    }
+
+    /// The same, with how many were asked for.
+    pub(super) fn size(&mut self) -> &mut ChunkSize {
+        &mut self.size
+    }
+
+    /// Whether the next call fills a chunk.
+    #[inline]
+    pub(super) fn fills_chunk(&self) -> bool {
+        self.newer.sites.len() + 1 == self.chunk()
     }
 
     /// Whether the next call begins a chunk.
     #[inline]
     pub(super) fn has_full_chunk(&self) -> bool {
-        self.newer.sites.len() >= self.most
+        self.newer.sites.len() >= self.chunk()
+    }
+
+    /// Whether the next call, by this actor, is added by [`add_plain`](LastCalls::add_plain): there
+    /// is nothing else to note at it.
+    #[inline(always)]
+    pub(super) fn takes_plain(&self, actor: Actor) -> bool {
+        self.newer.sites.len() < self.plain_until && actor != SHARED
+    }
+
+    /// Adds such a call, which is about to be made here.
+    #[inline(always)]
+    pub(super) fn add_plain(&mut self, called_at: CallSite, actor: Actor) {
+        self.newer.sites.push(called_at);
+        self.newer.actors |= actor.bit();
+        self.last_actor = actor;
     }
 
     /// Adds a call that is about to be made here by this actor, and gets this stamp.
-    #[inline]
     pub(super) fn add(&mut self, called_at: CallSite, actor: Actor, stamp: u64) {
         if self.newer.sites.len() % CALLS_BETWEEN_TIMES == 0 {
             self.note_time(stamp);
@@ -224,9 +256,10 @@ impl LastCalls {
         if actor == SHARED && self.is_of_flight {
             self.newer.sharing.add(self.newer.sites.len());
         }
-        self.newer.sites.push(called_at);
-        self.newer.actors |= actor.bit();
-        self.last_actor = actor;
+        self.add_plain(called_at, actor);
+        let next_time = self.newer.sites.len().next_multiple_of(CALLS_BETWEEN_TIMES);
+        // The last call of a chunk isn't plain, since its size is looked at then.
+        self.plain_until = next_time.min(self.chunk() - 1);
     }
 
     /// Notes what time it is at a call with this stamp.
@@ -236,8 +269,34 @@ impl LastCalls {
         self.newer.moments.extend(self.clock.moment(stamp));
     }
 
+    /// The clocks of the recorder.
+    pub(super) fn clock(&self) -> &Clock {
+        &self.clock
+    }
+
+    /// Returns the times that are known of calls and these ones, in the order of their stamps.
+    pub(super) fn times_with(&self, others: impl Iterator<Item = Moment>) -> Vec<Moment> {
+        let chunks = [&self.older, &self.newer];
+        let noted = chunks.into_iter().flat_map(|chunk| &chunk.moments);
+        let mut times: Vec<_> = noted.copied().chain(others).collect();
+        sort_by_key(&mut times, |time| (time.stamp, time.since_start));
+        times
+    }
+
+    /// Keeps the time of one of the calls as that which was noted at it, unless there is one.
+    pub(super) fn keep_time(&mut self, time: Moment) {
+        let (older, newer) = (&mut self.older.moments, &mut self.newer.moments);
+        // The time is noted at the first call of a chunk.
+        let is_newer = newer.first().is_some_and(|first| first.stamp <= time.stamp);
+        let times = if is_newer { newer } else { older };
+        if let Err(index) = times.binary_search_by_key(&time.stamp, |known| known.stamp) {
+            times.insert(index, time);
+        }
+    }
+
     /// Removes the call that was added last, since it wasn't made. Returns where it was to be.
     pub(super) fn remove_last(&mut self) -> CallSite {
+        self.plain_until = 0;
         let site = self.newer.sites.pop().flatten();
         self.newer.sharing.remove_last(self.newer.sites.len());
         if self.newer.sites.len() % CALLS_BETWEEN_TIMES == 0 {
@@ -251,6 +310,7 @@ impl LastCalls {
         self.before += self.older.sites.len() as u64;
         self.retain_texts();
         self.older.clear();
+        self.plain_until = 0;
         mem::swap(&mut self.older, &mut self.newer);
     }
 
@@ -334,6 +394,7 @@ impl LastCalls {
                 self.handles.copy()?
             },
             moments: joined(chunks.map(|chunk| &*chunk.moments))?,
+            last_wait: None,
             sharing: self.sharing()?,
         })
     }
@@ -367,7 +428,7 @@ mod tests {
     use super::*;
 
     fn calls(most: usize) -> LastCalls {
-        LastCalls::new(most, 2, Times::begin())
+        LastCalls::new(ChunkSize::new(most), 2, Times::begin())
     }
 
     fn add(calls: &mut LastCalls, actor: usize) {

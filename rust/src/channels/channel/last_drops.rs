@@ -17,13 +17,22 @@ pub(crate) struct DropStacks {
 }
 
 impl DropStacks {
-    /// Notes that the last handle of this kind is dropped here.
-    pub(super) fn note(&mut self, kind: Kind) {
+    pub(super) const NONE: DropStacks = DropStacks {
+        sender: None,
+        receiver: None,
+    };
+
+    /// Returns the stack of this thread, if one more is kept.
+    pub(super) fn stack() -> Option<Arc<Backtrace>> {
         static KEPT: AtomicUsize = AtomicUsize::new(0);
-        if KEPT.fetch_add(1, Ordering::Relaxed) >= MOST_STACKS {
-            return;
-        }
-        let stack = Some(Arc::new(Backtrace::force_capture()));
+        let is_kept = KEPT.load(Ordering::Relaxed) < MOST_STACKS
+            && KEPT.fetch_add(1, Ordering::Relaxed) < MOST_STACKS;
+        is_kept.then(|| Arc::new(Backtrace::force_capture()))
+    }
+
+    /// Notes that the last handle of this kind was dropped there.
+    pub(super) fn note(&mut self, kind: Kind, stack: Arc<Backtrace>) {
+        let stack = Some(stack);
         match kind {
             Kind::Sender => self.sender = stack,
             Kind::Receiver => self.receiver = stack,

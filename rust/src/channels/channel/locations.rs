@@ -17,6 +17,9 @@ pub(crate) fn call_site() -> CallSite {
 /// How many call sites a block has. It has 32 KiB.
 const BLOCK: usize = 4096;
 
+/// How many call sites there is room for at first. Most channels have few.
+const FIRST: usize = 4;
+
 /// How many blocks there are of that size. The one after them has room for the rest of a recording.
 const SMALL_BLOCKS: usize = 16;
 
@@ -43,7 +46,7 @@ impl CallSites {
     #[cold]
     fn grow(&mut self) {
         match self.last.capacity() {
-            0 => self.last.reserve_exact(16),
+            0 => self.last.reserve_exact(FIRST),
             BLOCK.. => {
                 let next = self.next_block();
                 self.whole.push(mem::replace(&mut self.last, next));

@@ -1,21 +1,22 @@
 //! Calls, which are made while the channel is locked.
 
-use super::{Call, CallSite, ChannelState, CoreChannel, NO_SLOT, RecordedChannel, Send, Slot};
+use super::{
+    Call, CallSite, ChannelState, CoreChannel, ListedCall, NO_SLOT, RecordedChannel, Send, Slot,
+};
 use crate::channels::actors;
 use crate::channels::backend::{Actor, Caller};
+use crate::channels::channel_lock::ChannelGuard;
 use crate::channels::events::{Close, Event, Lag};
 use crate::channels::handle::Kind;
-use crate::channels::lock::lock;
 use crate::channels::recorder::{DumpRequest, Shared};
 use crate::channels::turns::Permit;
-use crate::channels::wait::{Awaited, Look, Method, Wait, WaitNumber};
+use crate::channels::wait::{Awaited, Look, Method, Wait, WaitFor};
 use crate::channels::wakers::{WakeAtEnd, Wakers};
 use crate::core::shim::alloc::Global;
-use crate::core::source::rw_handles as handles;
-use crate::core::source::rw_waiting::{Notice, told};
+use crate::core::source::rw_waiting::told;
 use crate::run::clock::now;
 use crate::run::reply::Reply;
-use std::sync::{Arc, MutexGuard};
+use std::sync::Arc;
 
 /// A channel whose lock is held, for the calls of one actor by one handle.
 ///
@@ -24,7 +25,7 @@ use std::sync::{Arc, MutexGuard};
 /// assertions are on, nothing is inlined into another package: that of a test may be compiled
 /// without optimisation, and this one with it.
 pub(crate) struct LockedChannel<'a> {
-    pub(crate) state: MutexGuard<'a, ChannelState>,
+    pub(crate) state: ChannelGuard<'a, ChannelState>,
     channel: &'a RecordedChannel,
     // Of the next call, in a replay.
     permit: Option<Permit<'a>>,
@@ -48,7 +49,7 @@ impl RecordedChannel {
     ) -> LockedChannel<'a> {
         let actor = self.recorder.actor(called_at);
         LockedChannel {
-            state: lock(&self.state),
+            state: self.state.lock(),
             channel: self,
             permit,
             actor,
@@ -152,7 +153,10 @@ impl<'a> LockedChannel<'a> {
         self.state.value_count += 1;
         match reply {
             Reply::NoReceivers(_) => self.state.unsent_count += 1,
-            _ => self.state.last_send.note(self.called_at),
+            _ => {
+                self.state.last_send.note(self.called_at);
+                self.state.sent_stamp = self.stamp;
+            }
         }
         if let Some(text) = text {
             let is_sent = !matches!(reply, Reply::NoReceivers(_));
@@ -175,7 +179,13 @@ impl<'a> LockedChannel<'a> {
         let (channel, by) = (self.channel, (self.actor, self.called_at));
         let clock = match &channel.recorder.0 {
             None => 0,
-            Some(recorder) if !state.keeps_all => channel.tick_apart(recorder, state, by),
+            Some(recorder) if !state.keeps_all => {
+                if state.adds_plain(by.0, by.1) {
+                    recorder.tick()
+                } else {
+                    channel.tick_apart(recorder, state, by)
+                }
+            }
             Some(recorder) if recorder.is_past_limit() => {
                 channel.tick_past_limit(recorder, state, by)
             }
@@ -209,17 +219,21 @@ impl<'a> LockedChannel<'a> {
         self.state.note_waited();
     }
 
-    /// Notes that the receiver in this slot has received a value.
+    /// Notes that the receiver in this slot has received a value. Returns whether a call of it that
+    /// waits is listed.
     #[cfg_attr(debug_assertions, inline(never))]
     #[cfg_attr(not(debug_assertions), inline(always))]
-    pub(crate) fn note_receive(&mut self, slot: Slot) {
+    pub(crate) fn note_receive(&mut self, slot: Slot) -> bool {
         let state = &mut *self.state;
         let stamp = if state.is_recorded { self.stamp } else { 0 };
-        state.receivers.receive(slot, self.called_at, stamp);
+        state.receivers.receive(slot, self.called_at, stamp)
     }
 
     /// Notes that the receiver in this slot was told that it has lost values. Returns the event, to
     /// be dropped once the channel is unlocked.
+    // Where it isn't inlined, each receive stores the `LockedChannel` for it.
+    #[cfg_attr(debug_assertions, inline(never))]
+    #[cfg_attr(not(debug_assertions), inline(always))]
     pub(crate) fn note_lag(&mut self, slot: Slot, lost: u64) -> Event {
         let (state, receiver) = (&mut *self.state, (self.handle, slot));
         let at = (self.called_at, self.stamp);
@@ -242,16 +256,18 @@ impl<'a> LockedChannel<'a> {
     #[cfg_attr(debug_assertions, inline(never))]
     #[cfg_attr(not(debug_assertions), inline(always))]
     pub(crate) fn unlock_without_wait(self, slot: Slot) {
-        if self.state.receivers.has_wait(slot) {
-            self.unlock_and_forget(slot);
-        }
+        let has_wait = self.state.receivers.has_wait(slot);
+        self.unlock_after(has_wait, slot);
     }
 
-    #[cold]
-    fn unlock_and_forget(mut self, slot: Slot) {
-        let gone = self.state.end_forgotten(slot);
-        drop(self);
-        drop(gone);
+    /// As [`unlock_without_wait`](LockedChannel::unlock_without_wait), where it is known whether a
+    /// call of the receiver is listed.
+    #[cfg_attr(debug_assertions, inline(never))]
+    #[cfg_attr(not(debug_assertions), inline(always))]
+    pub(crate) fn unlock_after(self, has_wait: bool, slot: Slot) {
+        if has_wait {
+            unlock_and_forget(self.state, slot);
+        }
     }
 
     /// Unlocks the channel without a call, and returns the permit of the call.
@@ -268,16 +284,16 @@ impl<'a> LockedChannel<'a> {
     }
 
     /// Lists a call of the handle, which is of this kind, among those that wait since this time of
-    /// the clock. Returns its number there.
+    /// the clock.
     pub(crate) fn list_wait(
         &mut self,
         (kind, slot): (Kind, Slot),
         awaited: Awaited,
         method: Method,
         since: u64,
-    ) -> WaitNumber {
+    ) -> ListedCall {
         let (actor, handle) = (self.actor, self.handle);
-        self.state.list_wait(Wait {
+        self.state.waits.add(Wait {
             actor,
             handle,
             slot,
@@ -318,48 +334,48 @@ impl<'a> LockedChannel<'a> {
     #[cfg_attr(debug_assertions, inline(never))]
     #[cfg_attr(not(debug_assertions), inline(always))]
     pub(crate) fn drop_handle(&mut self, kind: Kind, slot: Slot, call: Call) -> (Wakers, Event) {
-        self.call(call);
+        let reply = self.call(call);
         self.state.remove_name(self.handle);
         if actors::is_dropping_future() {
             self.state.note_cancelled();
         }
         match kind {
-            Kind::Sender => self.drop_sender(),
-            Kind::Receiver => (self.drop_receiver(slot), Event::default()),
+            Kind::Sender => self.drop_sender(reply),
+            Kind::Receiver => (self.drop_receiver(slot, reply), Event::default()),
             Kind::WeakSender => (Wakers::default(), Event::default()),
         }
     }
 
-    /// Ends what the channel has of its sender that is dropped.
+    /// Ends what the channel has of its sender that is dropped, given the reply of that call. The
+    /// drop of one of several tells nobody.
     #[inline]
-    fn drop_sender(&mut self) -> (Wakers, Event) {
+    fn drop_sender(&mut self, reply: Reply) -> (Wakers, Event) {
         let left = self.core().senders();
         if left > 0 {
             return (Wakers::default(), Event::default());
         }
         self.state.note_last_drop(Kind::Sender);
         let event = self.channel.note_close(&mut self.state, self.stamp);
-        let notice = Notice::Dropped(handles::Kind::Sender, left);
-        (self.remove_wakers(notice), event)
+        (self.state.remove_wakers(Kind::Sender, reply), event)
     }
 
-    /// Ends what the channel has of its receiver in this slot, which is dropped.
+    /// Ends what the channel has of its receiver in this slot, which is dropped, given the reply of
+    /// that call. The drop of one of several tells nobody.
     #[inline]
-    fn drop_receiver(&mut self, slot: Slot) -> Wakers {
+    fn drop_receiver(&mut self, slot: Slot, reply: Reply) -> Wakers {
         let left = self.core().receivers();
         let state = &mut *self.state;
-        let gone = if state.receivers.has_wait(slot) {
-            state.end_forgotten(slot)
-        } else {
-            None
-        };
-        state.receivers.remove(slot);
-        if left == 0 {
-            state.receivers.remove_slots();
-            state.note_last_drop(Kind::Receiver);
+        let mut gone = None;
+        if state.receivers.has_wait(slot) {
+            gone = state.end_forgotten(slot);
         }
-        let notice = Notice::Dropped(handles::Kind::Receiver, left);
-        self.remove_wakers(notice).and_gone(gone)
+        state.receivers.remove(slot);
+        if left > 0 {
+            return Wakers::gone(gone);
+        }
+        state.receivers.remove_slots();
+        state.note_last_drop(Kind::Receiver);
+        state.remove_wakers(Kind::Receiver, reply).and_gone(gone)
     }
 
     /// Whether the handle, a receiver of a watch, has seen the value.
@@ -375,55 +391,84 @@ impl<'a> LockedChannel<'a> {
         &mut self.state.core
     }
 
-    /// Unlocks the channel, and then wakes the futures that the last call has told.
+    /// Unlocks the channel, and then wakes the futures that the call of a sender with this reply
+    /// has told.
     #[cfg_attr(debug_assertions, inline(never))]
     #[cfg_attr(not(debug_assertions), inline(always))]
-    pub(crate) fn unlock_and_wake(self, notice: Notice) {
-        if self.tells_any(notice) {
-            self.unlock_and_wake_each(notice);
+    pub(crate) fn unlock_and_wake(self, reply: Reply) {
+        if self.state.is_awaited(WaitFor::Value) {
+            unlock_and_wake_each(self.state, reply);
         }
     }
 
-    #[cold]
-    fn unlock_and_wake_each(mut self, notice: Notice) {
-        let wakers = self.remove_wakers(notice);
-        drop(self);
-        wakers.wake();
-    }
-
-    /// Unlocks the channel, drops a value, and then wakes the futures that the last call has told.
-    /// They are woken also if the drop panics.
+    /// Unlocks the channel, drops a value, and then wakes the futures that the call of a sender
+    /// with this reply has told. They are woken also if the drop panics.
     #[cfg_attr(debug_assertions, inline(never))]
     #[cfg_attr(not(debug_assertions), inline(always))]
-    pub(crate) fn unlock_drop_and_wake<V>(self, dropped: V, notice: Notice) {
-        if self.tells_any(notice) {
-            self.unlock_drop_and_wake_each(dropped, notice);
+    pub(crate) fn unlock_drop_and_wake<V>(self, dropped: V, reply: Reply) {
+        if self.state.is_awaited(WaitFor::Value) {
+            unlock_drop_and_wake_each(self.state, dropped, reply);
         } else {
             drop(self);
             drop(dropped);
         }
     }
+}
+
+// These are cold, so they get the state, and not a `LockedChannel`, which would be stored in memory
+// for them at each call. The call is made, and has used its permit.
+
+#[cold]
+#[inline(never)]
+fn unlock_and_forget(mut state: ChannelGuard<'_, ChannelState>, slot: Slot) {
+    let gone = state.end_forgotten(slot);
+    drop(state);
+    drop(gone);
+}
+
+#[cold]
+#[inline(never)]
+fn unlock_and_wake_each(mut state: ChannelGuard<'_, ChannelState>, reply: Reply) {
+    let wakers = state.remove_wakers_now(Kind::Sender, reply);
+    drop(state);
+    wakers.wake();
+}
+
+#[cold]
+#[inline(never)]
+fn unlock_drop_and_wake_each<V>(
+    mut state: ChannelGuard<'_, ChannelState>,
+    dropped: V,
+    reply: Reply,
+) {
+    let wakers = WakeAtEnd(state.remove_wakers_now(Kind::Sender, reply));
+    drop(state);
+    drop(dropped);
+    drop(wakers);
+}
+
+impl ChannelState {
+    /// Whether some future waits for this.
+    #[inline(always)]
+    fn is_awaited(&self, it: WaitFor) -> bool {
+        !self.waiting.is_empty(it)
+    }
+
+    /// Removes the futures that a call by a handle of this kind has told, which has this reply, and
+    /// returns their wakers.
+    #[inline]
+    fn remove_wakers(&mut self, kind: Kind, reply: Reply) -> Wakers {
+        if self.is_awaited(WaitFor::Value) || self.is_awaited(WaitFor::NoReceiver) {
+            self.remove_wakers_now(kind, reply)
+        } else {
+            Wakers::default()
+        }
+    }
 
     #[cold]
-    fn unlock_drop_and_wake_each<V>(mut self, dropped: V, notice: Notice) {
-        let wakers = WakeAtEnd(self.remove_wakers(notice));
-        drop(self);
-        drop(dropped);
-        drop(wakers);
-    }
-
-    /// Whether some future waits for what the last call has told.
-    #[inline(always)]
-    fn tells_any(&self, notice: Notice) -> bool {
-        told(notice).is_some_and(|it| !self.state.waiting.is_empty(it))
-    }
-
-    /// Removes the futures that the last call has told, and returns their wakers.
-    #[inline]
-    fn remove_wakers(&mut self, notice: Notice) -> Wakers {
-        if !self.tells_any(notice) {
-            return Wakers::default();
-        }
-        Wakers::woken(self.state.waiting.woken(Global, told(notice)))
+    #[inline(never)]
+    fn remove_wakers_now(&mut self, kind: Kind, reply: Reply) -> Wakers {
+        let notice = reply.notice(|| (kind, self.core.alive(kind)));
+        Wakers::woken(self.waiting.woken(Global, notice.and_then(told)))
     }
 }

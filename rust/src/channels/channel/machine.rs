@@ -229,7 +229,7 @@ impl Machine {
     }
 
     /// How many of them are alive, those that stand for others included.
-    fn alive(&self) -> u32 {
+    pub(super) fn alive(&self) -> u32 {
         let core = &self.core;
         (core.senders() + core.weak_senders() + core.receivers()) as u32
     }

@@ -121,6 +121,10 @@ impl Numbers {
     /// those that their machine gave them. Each call looks for it.
     #[inline(always)]
     pub(super) fn own_place(&self, number: u32) -> Option<Place> {
+        // Most channels have none, and without optimization this is the fastest question.
+        if self.places.is_empty() {
+            return None;
+        }
         self.places.get(number as usize).copied()
     }
 

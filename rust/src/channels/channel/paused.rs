@@ -2,6 +2,7 @@
 //! there is room again.
 
 use super::ChannelState;
+use super::chunk_size::ChunkSize;
 use super::last_calls::LastCalls;
 use super::made_handles::MadeHandles;
 use crate::channels::recorder::Shared;
@@ -10,7 +11,7 @@ use std::collections::HashMap;
 
 /// What is known of a channel whose last calls aren't kept for a time.
 pub(crate) struct PausedFlight {
-    chunk: usize,
+    size: ChunkSize,
     // How many calls were made until now.
     calls: u64,
     // The handles of before.
@@ -34,12 +35,12 @@ impl ChannelState {
     /// Keeps no calls until there is room for further handles, if the last calls were kept. Returns
     /// `false` if all calls are.
     pub(super) fn pause(&mut self) -> bool {
-        let Some(last) = self.last_calls.take() else {
+        let Some(mut last) = self.last_calls.take() else {
             return false;
         };
         self.is_recorded = false;
         self.paused = Some(Box::new(PausedFlight {
-            chunk: last.chunk(),
+            size: *last.size(),
             calls: last.count(),
             handles: last.handles,
         }));
@@ -84,7 +85,7 @@ impl ChannelState {
             (nth, made_at.or_else(|| paused.handles.made_at_nth(nth)))
         });
         let handles = MadeHandles::of(handles.collect(), created);
-        let mut last = LastCalls::new(paused.chunk, self.retained_capacity(), times);
+        let mut last = LastCalls::new(paused.size, self.retained_capacity(), times);
         last.begin(true, self.sent_count());
         last.begin_again(paused.calls, handles);
         last

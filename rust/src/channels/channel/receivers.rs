@@ -1,8 +1,8 @@
 //! The receivers of a channel that are alive, with what is said of each: recorded or not.
 
 use super::CallSite;
-use crate::channels::wait::WaitNumber;
-use std::mem;
+use super::waits::{NO_PLACE, WaitPlace};
+use std::{iter, mem};
 
 /// Where a receiver is in the list of those that are alive.
 #[derive(Clone, Copy, Debug, PartialEq, Eq)]
@@ -16,9 +16,7 @@ impl Slot {
     pub(crate) const FIRST: Slot = Slot(0);
 }
 
-/// What is known of a receiver, besides what the core knows. It is written at each receive, so it
-/// shares no cache line with that of another channel, which another thread writes.
-#[repr(align(64))]
+/// What is known of a receiver, besides what the core knows.
 pub(crate) struct LiveReceiver {
     /// Its number as a handle. A slot without a receiver has `NO_NUMBER`, and in `lost` the next
     /// such slot, or `NO_SLOT`.
@@ -30,68 +28,81 @@ pub(crate) struct LiveReceiver {
     pub(crate) received_stamp: u64,
     /// How many values it was told that it has lost.
     pub(crate) lost: u64,
-    // Its call that waits, or `NO_WAIT`.
-    wait: ListedWait,
+    // The place of its call that waits with a ticket, or `NO_PLACE`.
+    wait: WaitPlace,
 }
 
-/// A call of a receiver that waits: its number among all that wait, and its ticket among those that
-/// are woken.
-#[derive(Clone, Copy)]
-pub(super) struct ListedWait {
-    pub(super) listed: WaitNumber,
-    pub(super) ticket: WaitNumber,
-}
-
-/// No call that waits.
-const NO_WAIT: ListedWait = ListedWait {
-    listed: WaitNumber::MAX,
-    ticket: WaitNumber::MAX,
-};
-
-impl ListedWait {
-    #[inline]
-    fn there(self) -> Option<ListedWait> {
-        (self.listed != NO_WAIT.listed).then_some(self)
-    }
-}
+/// A receiver in the list. It is written at each receive, so it shares no cache line with that of
+/// another channel, which another thread writes.
+#[repr(align(64))]
+struct Apart(LiveReceiver);
 
 /// A number that no handle has, since a channel has no place for that number of handles.
 const NO_NUMBER: u32 = u32::MAX;
 
+impl LiveReceiver {
+    fn new(number: u32, made_at: CallSite) -> LiveReceiver {
+        LiveReceiver {
+            number,
+            made_at,
+            received_at: None,
+            received_stamp: 0,
+            lost: 0,
+            wait: NO_PLACE,
+        }
+    }
+}
+
 /// The receivers of a channel that are alive. A slot is used again once its receiver is dropped, so
 /// the list is as long as there were receivers at one time.
 pub(crate) struct Receivers {
-    slots: Vec<LiveReceiver>,
+    // The receiver in the first slot. Most channels have no other, and so no list.
+    first: LiveReceiver,
+    // Those in the slots behind it.
+    others: Vec<Apart>,
     // The slot that is used next, if one is free.
     free: Slot,
 }
 
 impl Default for Receivers {
     fn default() -> Receivers {
+        let mut first = LiveReceiver::new(NO_NUMBER, None);
+        first.lost = NO_SLOT.0.into();
         Receivers {
-            slots: Vec::new(),
-            free: NO_SLOT,
+            first,
+            others: Vec::new(),
+            free: Slot::FIRST,
         }
     }
 }
 
 impl Receivers {
+    #[inline(always)]
+    fn slot(&self, Slot(slot): Slot) -> Option<&LiveReceiver> {
+        match slot {
+            0 => Some(&self.first),
+            _ => self.others.get(slot as usize - 1).map(|it| &it.0),
+        }
+    }
+
+    #[inline(always)]
+    fn slot_mut(&mut self, Slot(slot): Slot) -> Option<&mut LiveReceiver> {
+        match slot {
+            0 => Some(&mut self.first),
+            _ => self.others.get_mut(slot as usize - 1).map(|it| &mut it.0),
+        }
+    }
+
     /// Adds a receiver with this number that is made here, and returns its slot.
     #[inline]
     pub(super) fn add(&mut self, number: u32, made_at: CallSite) -> Slot {
-        let receiver = LiveReceiver {
-            number,
-            made_at,
-            received_at: None,
-            received_stamp: 0,
-            lost: 0,
-            wait: NO_WAIT,
-        };
+        let receiver = LiveReceiver::new(number, made_at);
         let slot = self.free;
-        match self.slots.get_mut(slot.0 as usize) {
+        match self.slot_mut(slot) {
             Some(free) => {
-                self.free = Slot(free.lost as u32);
+                let next = Slot(free.lost as u32);
                 *free = receiver;
+                self.free = next;
                 slot
             }
             None => self.add_slot(receiver),
@@ -100,18 +111,19 @@ impl Receivers {
 
     #[cold]
     fn add_slot(&mut self, receiver: LiveReceiver) -> Slot {
-        self.slots.push(receiver);
-        Slot(self.slots.len() as u32 - 1)
+        self.others.push(Apart(receiver));
+        Slot(self.others.len() as u32)
     }
 
     /// Removes a receiver.
     #[inline]
     pub(super) fn remove(&mut self, slot: Slot) {
-        let Some(receiver) = self.slots.get_mut(slot.0 as usize) else {
+        let free = self.free;
+        let Some(receiver) = self.slot_mut(slot) else {
             return;
         };
         receiver.number = NO_NUMBER;
-        receiver.lost = self.free.0.into();
+        receiver.lost = free.0.into();
         self.free = slot;
     }
 
@@ -119,55 +131,70 @@ impl Receivers {
     /// moved. Here none is left.
     #[cold]
     pub(super) fn remove_slots(&mut self) {
-        if self.slots.len() > 64 {
+        if self.others.len() > 64 {
             *self = Receivers::default();
         }
     }
 
-    /// Notes the call of a receiver that waits, and returns the one that was noted before.
-    pub(super) fn note_wait(&mut self, Slot(slot): Slot, wait: ListedWait) -> Option<ListedWait> {
-        let receiver = self.slots.get_mut(slot as usize)?;
-        mem::replace(&mut receiver.wait, wait).there()
+    /// Notes the place of the call of a receiver that waits, and returns the one that was noted
+    /// before.
+    #[inline]
+    pub(super) fn note_wait(&mut self, slot: Slot, place: WaitPlace) -> Option<WaitPlace> {
+        let receiver = self.slot_mut(slot)?;
+        Some(mem::replace(&mut receiver.wait, place)).filter(|place| *place != NO_PLACE)
     }
 
-    /// Returns the call of a receiver that waits, which is no longer noted then.
+    /// Returns the place of the call of a receiver that waits, which is no longer noted then.
     #[inline]
-    pub(super) fn take_wait(&mut self, slot: Slot) -> Option<ListedWait> {
-        self.note_wait(slot, NO_WAIT)
+    pub(super) fn take_wait(&mut self, slot: Slot) -> Option<WaitPlace> {
+        self.note_wait(slot, NO_PLACE)
+    }
+
+    /// Notes that the call of a receiver in this place no longer waits.
+    #[inline]
+    pub(super) fn end_wait(&mut self, slot: Slot, place: WaitPlace) {
+        if let Some(receiver) = self.slot_mut(slot).filter(|it| it.wait == place) {
+            receiver.wait = NO_PLACE;
+        }
     }
 
     /// Whether a call of the receiver that waits is noted.
     #[inline(always)]
-    pub(crate) fn has_wait(&self, Slot(slot): Slot) -> bool {
-        let receiver = self.slots.get(slot as usize);
-        receiver.is_some_and(|receiver| receiver.wait.listed != NO_WAIT.listed)
+    pub(crate) fn has_wait(&self, slot: Slot) -> bool {
+        let receiver = self.slot(slot);
+        receiver.is_some_and(|receiver| receiver.wait != NO_PLACE)
     }
 
-    /// Notes that a receiver has received a value here, by a call with this stamp.
+    /// Notes that a receiver has received a value here, by a call with this stamp. Returns whether
+    /// a call of it that waits is noted.
     #[inline(always)]
-    pub(super) fn receive(&mut self, Slot(slot): Slot, received_at: CallSite, stamp: u64) {
-        if let Some(receiver) = self.slots.get_mut(slot as usize) {
-            receiver.received_at = received_at;
-            receiver.received_stamp = stamp;
-        }
+    pub(super) fn receive(&mut self, slot: Slot, received_at: CallSite, stamp: u64) -> bool {
+        let Some(receiver) = self.slot_mut(slot) else {
+            return false;
+        };
+        receiver.received_at = received_at;
+        receiver.received_stamp = stamp;
+        receiver.wait != NO_PLACE
     }
 
     /// Notes that a receiver was told that it has lost `lost` values.
-    pub(super) fn lose(&mut self, Slot(slot): Slot, lost: u64) {
-        if let Some(receiver) = self.slots.get_mut(slot as usize) {
+    pub(super) fn lose(&mut self, slot: Slot, lost: u64) {
+        if let Some(receiver) = self.slot_mut(slot) {
             receiver.lost += lost;
         }
     }
 
     /// Returns the receiver in this slot.
-    pub(crate) fn get(&self, Slot(slot): Slot) -> &LiveReceiver {
-        &self.slots[slot as usize]
+    pub(crate) fn get(&self, slot: Slot) -> &LiveReceiver {
+        self.slot(slot).expect("the slot of a receiver")
     }
 
     /// Returns the receivers.
     pub(crate) fn iter(&self) -> impl Iterator<Item = &LiveReceiver> {
-        let slots = self.slots.iter();
-        slots.filter(|receiver| receiver.number != NO_NUMBER)
+        let others = self.others.iter().map(|it| &it.0);
+        iter::once(&self.first)
+            .chain(others)
+            .filter(|receiver| receiver.number != NO_NUMBER)
     }
 }
 
@@ -206,7 +233,7 @@ mod tests {
         slots.into_iter().for_each(|slot| receivers.remove(slot));
         receivers.remove_slots();
         assert_eq!(
-            (receivers.slots.capacity(), receivers.iter().count()),
+            (receivers.others.capacity(), receivers.iter().count()),
             (0, 0)
         );
     }

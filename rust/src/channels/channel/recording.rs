@@ -24,6 +24,9 @@ impl RecordedChannel {
         if state.has_full_chunk() {
             state.turn_chunks();
         }
+        if state.fills_chunk() {
+            state.resize_chunk();
+        }
         if state.paused.is_some() && !state.goes_on(recorder) {
             let paused = state.paused.as_mut();
             return paused.map_or(0, |paused| paused.tick(recorder));

@@ -2,7 +2,9 @@
 //! all of them.
 
 use super::ChannelState;
+use crate::channels::channel_lock::ChannelLock;
 use crate::channels::lock::lock;
+use crate::channels::recorder::Shared;
 use crate::run::sorting::sort_by_key;
 use std::sync::{Arc, Mutex, Weak};
 
@@ -10,9 +12,21 @@ use std::sync::{Arc, Mutex, Weak};
 struct Listed {
     // In the order in which channels were created.
     number: u64,
-    // The number of the channel's recorder, if it has one.
-    recorder: Option<u64>,
-    state: Weak<Mutex<ChannelState>>,
+    // The channel's recorder, if it has one.
+    recorder: Option<Weak<Shared>>,
+    state: Weak<ChannelLock<ChannelState>>,
+}
+
+impl Listed {
+    fn is_of(&self, recorder: &Arc<Shared>) -> bool {
+        let of = self.recorder.as_ref();
+        of.is_some_and(|of| of.as_ptr() == Arc::as_ptr(recorder))
+    }
+
+    fn upgrade(&self) -> Option<RegisteredChannel> {
+        let recorder = self.recorder.as_ref().and_then(Weak::upgrade);
+        Some((self.state.upgrade()?, recorder))
+    }
 }
 
 /// The list. The slot of a channel is used again once it is gone.
@@ -32,8 +46,12 @@ static ALL: Mutex<All> = Mutex::new(All {
 pub(super) struct Registered(usize);
 
 impl Registered {
-    /// Adds a channel, which belongs to the recorder with this number or to none.
-    pub(super) fn add(state: &Arc<Mutex<ChannelState>>, recorder: Option<u64>) -> Registered {
+    /// Adds a channel, which belongs to this recorder or to none.
+    pub(super) fn add(
+        state: &Arc<ChannelLock<ChannelState>>,
+        recorder: Option<&Arc<Shared>>,
+    ) -> Registered {
+        let recorder = recorder.map(Arc::downgrade);
         let state = Arc::downgrade(state);
         let mut all = lock(&ALL);
         let number = all.next;
@@ -67,16 +85,19 @@ impl Drop for Registered {
     }
 }
 
+/// A channel whose senders or receivers are alive, with its recorder if it has one.
+pub(crate) type RegisteredChannel = (Arc<ChannelLock<ChannelState>>, Option<Arc<Shared>>);
+
 /// Returns the channels whose senders or receivers are alive, in the order of their creation: all,
-/// or those of the recorder with this number.
-pub(crate) fn all(of_recorder: Option<u64>) -> Vec<Arc<Mutex<ChannelState>>> {
+/// or those of this recorder.
+pub(crate) fn all(of_recorder: Option<&Arc<Shared>>) -> Vec<RegisteredChannel> {
     let all = lock(&ALL);
     let entries = all.slots.iter().flatten();
     let mut channels: Vec<_> = entries
-        .filter(|entry| of_recorder.is_none() || entry.recorder == of_recorder)
-        .filter_map(|entry| Some((entry.number, entry.state.upgrade()?)))
+        .filter(|entry| of_recorder.is_none_or(|wanted| entry.is_of(wanted)))
+        .filter_map(|entry| Some((entry.number, entry.upgrade()?)))
         .collect();
     drop(all);
     sort_by_key(&mut channels, |(number, _)| *number);
-    channels.into_iter().map(|(_, state)| state).collect()
+    channels.into_iter().map(|(_, channel)| channel).collect()
 }

@@ -1,24 +1,27 @@
 //! A channel without its values, as its recorder shares it.
 
 use super::CoreChannel;
+use super::chunk_size::ChunkSize;
 use super::last_calls::{LastCalls, SendMade};
 use super::last_drops::DropStacks;
 use super::locations::{CallSite, Locations};
 use super::paused::PausedFlight;
-use super::receivers::{ListedWait, Receivers, Slot};
+use super::receivers::{Receivers, Slot};
+use super::seldom::Seldom;
+use super::waits::{ListedCall, ListedCalls, WaitPlace};
 use crate::channels::actors::LastCaller;
+use crate::channels::backend::Actor;
 use crate::channels::handle::Kind;
-use crate::channels::wait::{DroppedWait, Look, Pending, Wait, WaitFor, WaitNumber};
+use crate::channels::wait::{DroppedWait, Look, Pending, Wait, WaitFor};
 use crate::channels::whereabouts::renews;
 use crate::core::large_pages::without_giving_back;
 use crate::core::shim::alloc::Global;
 use crate::core::source::rw_law::NoMemory;
-use crate::core::source::rw_waiting::{Queue, Waiting};
+use crate::core::source::rw_waiting::Waiting;
 use crate::run::clock::Times;
 use crate::run::numbered::NumberMap;
 use crate::run::sidecar::Maker;
 use std::alloc::{Layout, handle_alloc_error};
-use std::collections::VecDeque;
 use std::mem;
 use std::task::Waker;
 
@@ -48,32 +51,21 @@ pub(crate) struct ChannelState {
     pub(crate) receivers: Receivers,
     // Who has sent last, and where.
     pub(crate) last_send: LastCaller,
-    // The futures that wait, with their wakers, each until a call wakes it.
-    pub(super) waiting: Waiting<Waker>,
-    // The calls that wait. A call stays here from its first poll to its end, also while it is woken
-    // and not yet polled again.
-    pub(crate) waits: Queue<Wait>,
-    // Where the last sender and the last receiver were dropped.
-    pub(crate) last_drops: DropStacks,
-    // The last calls that waited and were dropped.
-    pub(crate) dropped_waits: VecDeque<DroppedWait>,
+    // The stamp of that call, which says something while the channel is recorded alone.
+    pub(super) sent_stamp: u64,
+    // The futures that wait, each until a call wakes it, with its waker once that is cloned.
+    pub(super) waiting: Waiting<Option<Waker>>,
+    // What is known of the calls that began to wait, each from its first poll to its end. Whether
+    // one waits, `waiting` says.
+    pub(super) waits: ListedCalls,
     // Of a watch, the looks at its value by their numbers. One that has ended stays until the next
     // look with its number.
     pub(super) looks: Vec<Look>,
-    pub(crate) name: Option<String>,
-    // The names of senders and receivers by their numbers: of those that the journal names, and of
-    // the others that are alive.
-    pub(crate) handle_names: NumberMap<u64, String>,
-    // The texts of values by their numbers.
-    pub(crate) texts: NumberMap<u64, String>,
+    // What most channels don't have.
+    pub(super) seldom: Option<Box<Seldom>>,
     pub(crate) locations: Locations,
     // Who has made the channel, if it has a recorder.
     pub(crate) made_by: Option<Maker>,
-    // The entries of calls that wait and whose words don't say so: how many entries are before
-    // each.
-    pub(crate) waited: Vec<u64>,
-    // The drops that were made by the drop of a named future, in the same way.
-    pub(crate) cancelled: Vec<u64>,
 }
 
 impl ChannelState {
@@ -92,18 +84,13 @@ impl ChannelState {
             actors: 0,
             receivers: Receivers::default(),
             last_send: LastCaller::default(),
+            sent_stamp: 0,
             waiting: Waiting::new(Global),
-            waits: Queue::new(Global),
-            last_drops: DropStacks::default(),
-            dropped_waits: VecDeque::new(),
+            waits: ListedCalls::NONE,
             looks: Vec::new(),
-            name: None,
-            handle_names: NumberMap::new(),
-            texts: NumberMap::new(),
+            seldom: None,
             locations: Locations::default(),
             made_by: None,
-            waited: Vec::new(),
-            cancelled: Vec::new(),
         }
     }
 
@@ -121,8 +108,9 @@ impl ChannelState {
         match &mut self.last_calls {
             Some(last) => last.note_waited(),
             None => {
-                let entry = self.last_entry();
-                self.waited.extend(entry);
+                if let Some(entry) = self.last_entry() {
+                    self.seldom_mut().waited.push(entry);
+                }
             }
         }
     }
@@ -132,8 +120,9 @@ impl ChannelState {
         match &mut self.last_calls {
             Some(last) => last.note_cancelled(),
             None => {
-                let entry = self.last_entry();
-                self.cancelled.extend(entry);
+                if let Some(entry) = self.last_entry() {
+                    self.seldom_mut().cancelled.push(entry);
+                }
             }
         }
     }
@@ -162,20 +151,21 @@ impl ChannelState {
 
     /// Names a handle.
     pub(crate) fn name_handle(&mut self, number: u32, name: &str) {
-        self.handle_names.insert(number.into(), name.to_string());
+        let names = &mut self.seldom_mut().handle_names;
+        names.insert(number.into(), name.to_string());
     }
 
     /// Removes the name of a handle that is dropped, unless the journal names it.
     #[inline]
     pub(super) fn remove_name(&mut self, number: u32) {
-        if !self.handle_names.is_empty() && number as usize >= self.locations.of_handles.len() {
+        if self.seldom.is_some() && number as usize >= self.locations.of_handles.len() {
             self.remove_name_now(number);
         }
     }
 
     #[cold]
     fn remove_name_now(&mut self, number: u32) {
-        let name = self.handle_names.remove(&number.into());
+        let name = self.seldom_mut().handle_names.remove(&number.into());
         if let (Some(last), Some(name)) = (&mut self.last_calls, name) {
             last.add_name(self.core.nth(number), name);
         }
@@ -184,7 +174,7 @@ impl ChannelState {
     /// Returns the name of the handle with this number, or its kind and how many handles the
     /// channel had created before it, which is its number in the journal.
     pub(crate) fn handle_name(&self, kind: Kind, number: u32) -> String {
-        if let Some(name) = self.handle_names.get(&number.into()) {
+        if let Some(name) = self.seldom().handle_names.get(&number.into()) {
             return name.clone();
         }
         let nth = self.core.nth(number);
@@ -198,7 +188,7 @@ impl ChannelState {
     /// Returns the names of those handles that the journal names.
     pub(crate) fn names_in_journal(&self) -> NumberMap<u64, String> {
         let count = self.locations.of_handles.len() as u64;
-        let named = self.handle_names.range(..count);
+        let named = self.seldom().handle_names.range(..count);
         named
             .map(|(number, name)| (*number, name.clone()))
             .collect()
@@ -206,7 +196,7 @@ impl ChannelState {
 
     /// Returns the name of the channel, or where it was made.
     pub(crate) fn name_or_place(&self) -> String {
-        match (&self.name, self.made_at) {
+        match (&self.seldom().name, self.made_at) {
             (Some(name), _) => name.clone(),
             (None, Some(at)) => format!("channel at {}:{}", at.file(), at.line()),
             (None, None) => "channel".to_string(),
@@ -234,16 +224,18 @@ impl ChannelState {
     }
 
     /// How many values were sent.
+    #[inline]
     pub(crate) fn sent_count(&self) -> u64 {
         self.value_count - self.opened_with - self.unsent_count
     }
 
     /// Returns what is known of the last calls, of what is known of all calls.
-    pub(super) fn noted(&self, chunk: usize, capacity: usize, times: Times) -> LastCalls {
-        let mut last = LastCalls::new(chunk, capacity, times);
+    pub(super) fn noted(&self, size: ChunkSize, capacity: usize, times: Times) -> LastCalls {
+        let mut last = LastCalls::new(size, capacity, times);
         last.add_all(&self.locations, self.actors);
-        last.add_indexes(&self.waited, &self.cancelled);
-        for (number, text) in &self.texts {
+        let seldom = self.seldom();
+        last.add_indexes(&seldom.waited, &seldom.cancelled);
+        for (number, text) in &seldom.texts {
             last.add_text(*number, text.clone(), true);
         }
         last
@@ -268,6 +260,21 @@ impl ChannelState {
             last.renumber(&before);
         }
         !self.core.has_named_all()
+    }
+
+    /// Adds the next call to the last ones, if nothing else is to be noted at it. Returns whether
+    /// it has.
+    #[inline(always)]
+    pub(super) fn adds_plain(&mut self, actor: Actor, called_at: CallSite) -> bool {
+        let sent = self.sent_count();
+        match &mut self.last_calls {
+            Some(last) if last.takes_plain(actor) => {
+                last.note_sent(sent);
+                last.add_plain(called_at, actor);
+                true
+            }
+            _ => false,
+        }
     }
 
     /// Notes whether the last call was a send, where the last ones alone are kept.
@@ -295,11 +302,33 @@ impl ChannelState {
         })
     }
 
+    /// Whether the next one of the last calls fills a chunk.
+    #[inline]
+    pub(super) fn fills_chunk(&self) -> bool {
+        let last = self.last_calls.as_ref();
+        last.is_some_and(|last| last.fills_chunk())
+    }
+
     /// Whether the next one of the last calls begins a chunk.
     #[inline]
     pub(super) fn has_full_chunk(&self) -> bool {
         let last = self.last_calls.as_ref();
         last.is_some_and(|last| last.has_full_chunk())
+    }
+
+    /// Before the call that fills a chunk of the last calls, which then copies what the channel
+    /// retains and its handles: lets the chunk have as many calls as that is worth.
+    #[cold]
+    #[inline(never)]
+    pub(super) fn resize_chunk(&mut self) {
+        let values = self.sent_count().min(self.retained_capacity() as u64) as usize;
+        let Some(last) = &mut self.last_calls else {
+            return;
+        };
+        let due = last.size().due(values, self.core.live_in_chunk());
+        if let Some(size) = due.and_then(|due| self.core.resize_chunks(due)) {
+            last.size().set(size);
+        }
     }
 
     /// Begins a chunk of the last calls, and drops the one before the last. If many handles are
@@ -329,11 +358,11 @@ impl ChannelState {
         self.is_recorded && self.core.has_named_all()
     }
 
-    /// Returns the numbers of actors that are needed: those of stored calls, of calls that wait,
-    /// and of looks. Each is a bit.
+    /// Returns the numbers of actors that are needed: those of stored calls, of calls that began to
+    /// wait, and of looks. Each is a bit.
     pub(crate) fn stored_actors(&self) -> u64 {
-        let waits = self.waits.items().values().map(|wait| wait.actor);
-        let dropped = self.dropped_waits.iter().map(|it| it.wait.actor);
+        let waits = self.waits.iter().map(|wait| wait.actor);
+        let dropped = self.seldom().dropped_waits.iter().map(|it| it.wait.actor);
         let looks = self.looks.iter().map(|look| look.actor);
         waits
             .chain(dropped)
@@ -354,7 +383,7 @@ impl ChannelState {
         if let Some(last) = &mut self.last_calls {
             last.add_text(number, text, is_sent);
         } else if self.is_recorded {
-            self.texts.insert(number, text);
+            self.seldom_mut().texts.insert(number, text);
         }
     }
 
@@ -369,8 +398,11 @@ impl ChannelState {
     /// Notes that the last handle of this kind is dropped here, if all calls are recorded.
     #[cold]
     pub(super) fn note_last_drop(&mut self, kind: Kind) {
-        if self.is_recorded && self.keeps_all {
-            self.last_drops.note(kind);
+        if !self.is_recorded || !self.keeps_all {
+            return;
+        }
+        if let Some(stack) = DropStacks::stack() {
+            self.seldom_mut().last_drops.note(kind, stack);
         }
     }
 
@@ -378,15 +410,18 @@ impl ChannelState {
     /// How long it waited isn't noted in a replay, or in a run that is explored, since they hold
     /// calls.
     pub(crate) fn note_dropped(&mut self, pending: &Pending, until: Option<u64>, is_held: bool) {
-        let wait = pending.listed.and_then(|listed| self.waits.get(listed));
-        let (Some(wait), Some(until)) = (wait.copied(), until) else {
+        let (Some(listed), Some(until)) = (pending.listed, until) else {
+            return;
+        };
+        let Some(wait) = self.waits.get(listed).copied() else {
             return;
         };
         if self.is_recorded && self.keeps_all {
-            if self.dropped_waits.len() == MOST_DROPPED_WAITS {
-                self.dropped_waits.pop_front();
+            let dropped = &mut self.seldom_mut().dropped_waits;
+            if dropped.len() == MOST_DROPPED_WAITS {
+                dropped.pop_front();
             }
-            self.dropped_waits.push_back(DroppedWait {
+            dropped.push_back(DroppedWait {
                 wait,
                 until,
                 waited: wait.began.filter(|_| !is_held).map(|it| it.elapsed()),
@@ -398,53 +433,65 @@ impl ChannelState {
     /// held.
     #[inline]
     pub(crate) fn end_wait(&mut self, wait_for: WaitFor, pending: &mut Pending) -> Option<Waker> {
-        let listed = pending.listed.take();
-        if let Some(wait) = listed.and_then(|listed| self.waits.remove(listed)) {
-            self.receivers.take_wait(wait.slot);
-        }
-        self.waiting.leave(wait_for, pending.queued.take()?)
+        let listed = pending.listed.take()?;
+        let ended = self.waits.remove(listed)?;
+        self.receivers.end_wait(ended.slot, listed.place());
+        self.waiting.leave(wait_for, ended.ticket?)?
     }
 
-    /// Lists a call that begins to wait, behind the others, and returns its number.
-    pub(crate) fn list_wait(&mut self, wait: Wait) -> WaitNumber {
-        let listed = self.waits.add(wait);
-        listed.unwrap_or_else(|NoMemory| no_memory())
+    /// Ends a call that was listed while it blocked its thread.
+    pub(crate) fn end_blocked(&mut self, listed: ListedCall) {
+        self.waits.remove(listed);
     }
 
     /// Whether a call is listed with a waker that wakes the same task as this one.
-    pub(crate) fn wakes(&self, wait_for: WaitFor, pending: &Pending, waker: &Waker) -> bool {
-        let ticket = pending.queued;
-        let listed = ticket.and_then(|ticket| self.waiting.waker(wait_for, ticket));
-        listed.is_some_and(|listed| renews(listed, waker))
+    #[inline]
+    pub(crate) fn wakes(&self, wait_for: WaitFor, listed: ListedCall, waker: &Waker) -> bool {
+        let ticket = self.waits.ticket(listed);
+        let own = ticket.and_then(|ticket| self.waiting.waker(wait_for, ticket));
+        matches!(own, Some(Some(own)) if renews(own, waker))
     }
 
-    /// Lists a call, which is among those that wait, with its waker. One that is listed stays where
-    /// it is. Returns a waker that nobody needs any more, to be dropped while no lock is held.
+    /// Lists a call, which is among those that wait, with its waker, or without one if that has yet
+    /// to be cloned. One that is listed stays where it is. Returns a waker that nobody needs any
+    /// more, to be dropped while no lock is held.
+    #[inline]
     pub(crate) fn list_waker(
         &mut self,
         wait_for: WaitFor,
-        slot: Slot,
-        pending: &mut Pending,
-        mut waker: Waker,
+        listed: ListedCall,
+        waker: Option<Waker>,
     ) -> Option<Waker> {
-        if let Some(ticket) = pending.queued {
-            match self.waiting.renew(wait_for, ticket, waker) {
-                Ok(before) => return Some(before),
-                Err(back) => waker = back,
-            }
+        let ticket = self.waits.ticket(listed);
+        let ticket = ticket.filter(|ticket| self.waiting.waker(wait_for, *ticket).is_some());
+        if ticket.is_some() {
+            return self.set_waker(wait_for, listed, waker?).ok().flatten();
         }
         let ticket = self.waiting.wait(wait_for, waker);
         let ticket = ticket.unwrap_or_else(|NoMemory| no_memory());
-        pending.queued = Some(ticket);
-        let listed = pending.listed?;
-        let before = self
-            .receivers
-            .note_wait(slot, ListedWait { listed, ticket })?;
-        if before.listed == listed {
+        let slot = self.waits.set_ticket(listed, ticket)?;
+        let before = self.receivers.note_wait(slot, listed.place())?;
+        if before == listed.place() {
             return None;
         }
         // It has begun another call, so its future before is gone, without a drop.
-        self.end_listed(before)
+        self.end_at(before)
+    }
+
+    /// Has a call that is listed woken by this waker. Returns the one that it had, to be dropped
+    /// while no lock is held, or this one if the call isn't listed any more.
+    #[inline]
+    pub(crate) fn set_waker(
+        &mut self,
+        wait_for: WaitFor,
+        listed: ListedCall,
+        waker: Waker,
+    ) -> Result<Option<Waker>, Waker> {
+        let Some(ticket) = self.waits.ticket(listed) else {
+            return Err(waker);
+        };
+        let renewed = self.waiting.renew(wait_for, ticket, Some(waker));
+        renewed.map_err(|back| back.expect("the waker that was given"))
     }
 
     /// Ends the wait of a receiver, if one is listed that has a waker: its future is gone, since
@@ -452,13 +499,13 @@ impl ChannelState {
     /// forgotten. Returns its waker, to be dropped while no lock is held.
     #[cold]
     pub(crate) fn end_forgotten(&mut self, slot: Slot) -> Option<Waker> {
-        let listed = self.receivers.take_wait(slot)?;
-        self.end_listed(listed)
+        let place = self.receivers.take_wait(slot)?;
+        self.end_at(place)
     }
 
-    fn end_listed(&mut self, wait: ListedWait) -> Option<Waker> {
-        self.waits.remove(wait.listed);
-        self.waiting.leave(WaitFor::Value, wait.ticket)
+    fn end_at(&mut self, place: WaitPlace) -> Option<Waker> {
+        let ended = self.waits.remove_at(place)?;
+        self.waiting.leave(WaitFor::Value, ended.ticket?)?
     }
 }
 

@@ -28,6 +28,10 @@ pub(crate) trait ForTests: Send + Sync {
     /// Creates the recorder of the test with this name, and what is kept until it ends. `None` if
     /// it is to have none. Where its end may not be seen, it isn't watched.
     fn begin(&self, test: &str, is_end_seen: bool) -> Option<(Recorder, KeptRecorder)>;
+
+    /// Learns that the text of a channel's error is written on the thread of a test, of which this
+    /// is kept.
+    fn error_is_written(&self, kept: &mut dyn Any, text: String);
 }
 
 static FOR_TESTS: OnceLock<&'static dyn ForTests> = OnceLock::new();
@@ -103,11 +107,23 @@ impl TestThread {
         matches!(*lock(&self.state), AutomaticState::Begun(_))
     }
 
+    /// Whether the test has ended, or has created a recorder of its own.
+    pub(crate) fn is_over(&self) -> bool {
+        matches!(*lock(&self.state), AutomaticState::Over)
+    }
+
     /// Gives what is kept of the test to this function, if it has a recorder by itself.
     pub(crate) fn with_kept<T>(&self, use_it: impl FnOnce(&mut dyn Any) -> T) -> Option<T> {
         match &mut *lock(&self.state) {
             AutomaticState::Begun(kept) => Some(use_it(&mut **kept)),
             _ => None,
+        }
+    }
+
+    /// The same where this thread may be using what is kept: then the function isn't called.
+    fn with_kept_unless_used(&self, use_it: impl FnOnce(&mut dyn Any)) {
+        if let Ok(AutomaticState::Begun(kept)) = self.state.try_lock().as_deref_mut() {
+            use_it(&mut **kept);
         }
     }
 
@@ -162,6 +178,30 @@ pub(crate) fn test_of_this_thread() -> Option<TestOfThread> {
     is_test.then_some(TestOfThread(stack))
 }
 
+/// Tells of the text of a channel's error, which somebody writes on this thread. The harness writes
+/// so what a test returns. Where tests get no recorders by themselves, it does nothing.
+#[inline]
+pub(crate) fn error_is_written(text: impl FnOnce() -> String) {
+    if let Some(for_tests) = FOR_TESTS.get() {
+        tell_of_error(*for_tests, text());
+    }
+}
+
+#[cold]
+fn tell_of_error(for_tests: &dyn ForTests, text: String) {
+    if let Some(test) = test_of_this_thread() {
+        let tell = |kept: &mut dyn Any| for_tests.error_is_written(kept, text);
+        test.thread().with_kept_unless_used(tell);
+    }
+}
+
+/// Returns the test with this path, if other threads of it have created channels, and its own
+/// thread hasn't been seen.
+pub(crate) fn test_expected(path: &str) -> Option<TestOfThread> {
+    let stack = lock(&EXPECTED).remove(path)?;
+    Some(TestOfThread(stack))
+}
+
 /// Returns what this thread, which runs the test with this path, has, if another thread of the test
 /// has created it.
 fn expected(path: &str) -> Option<Arc<Stack>> {
@@ -201,6 +241,8 @@ impl Recorder {
         if current.is_some() {
             return current;
         }
+        // The first channel of a process may be one of `Sender::new`.
+        crate::begin_tests();
         let for_tests = FOR_TESTS.get()?;
         // One of the test's own threads is noted where it is followed.
         let _ = test_of_this_thread();

@@ -173,6 +173,9 @@ impl Recorder {
 
     /// Returns the current recorder, also if it is off.
     pub(crate) fn current_or_off() -> Option<Recorder> {
+        if !is_any_entered() {
+            return None;
+        }
         of_this_thread().last().or_else(|| INSTALLED.last())
     }
 

@@ -16,7 +16,6 @@ pub(super) struct Makers {
     counts: HashMap<Option<String>, Count>,
 }
 
-#[derive(Default)]
 struct Count {
     count: u64,
     // How many channels all had made when this one made its last.
@@ -27,15 +26,14 @@ impl Makers {
     /// Counts a channel that this caller makes, and returns how many it has made before.
     pub(super) fn count(&mut self, name: &Option<String>) -> u64 {
         self.made += 1;
-        if !self.counts.contains_key(name) {
-            self.counts.insert(name.clone(), Count::default());
+        let last = self.made;
+        if let Some(maker) = self.counts.get_mut(name) {
+            maker.last = last;
+            maker.count += 1;
+            return maker.count - 1;
         }
-        let Some(maker) = self.counts.get_mut(name) else {
-            return 0;
-        };
-        maker.last = self.made;
-        maker.count += 1;
-        maker.count - 1
+        self.counts.insert(name.clone(), Count { count: 1, last });
+        0
     }
 
     /// Whether any channel was made.

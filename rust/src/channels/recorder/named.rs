@@ -68,7 +68,7 @@ impl Recorder {
     #[track_caller]
     pub fn name_channel<H: Handle>(&self, handle: &H, name: &str) -> &Recorder {
         let channel = self.expect_own(handle.recorded().channel);
-        lock(&channel.state).name = Some(name.to_string());
+        lock(&channel.state).seldom_mut().name = Some(name.to_string());
         self
     }
 

@@ -71,6 +71,22 @@ impl NotedPanic {
     }
 }
 
+#[cfg(test)]
+impl NotedPanic {
+    /// A panic of this thread with this text, at no place and before all calls.
+    pub(crate) fn with_text(text: &str) -> NotedPanic {
+        NotedPanic {
+            text: text.to_string(),
+            location: None,
+            actor: None,
+            who: None,
+            task: None,
+            thread: thread::current().id(),
+            since: 0,
+        }
+    }
+}
+
 /// Returns the text of a panic, or none if it is no text.
 pub(crate) fn text_of(info: &PanicHookInfo<'_>) -> String {
     let payload = info.payload();

@@ -8,6 +8,7 @@ use crate::channels::actors::{self, Actors};
 use crate::channels::atomic::AtomicU64;
 use crate::channels::backend::Actor;
 use crate::channels::channel::{CallSite, ChannelState, Known, SendMade};
+use crate::channels::channel_lock::ChannelLock;
 use crate::channels::lock::{lock, try_lock_for};
 use crate::channels::reentrant::thread_number;
 use crate::channels::turns::{self, Turns};
@@ -55,7 +56,7 @@ pub(crate) struct Shared {
     // Whether values have texts that nobody asked for, where their types are known.
     shows_known: AtomicBool,
     left_out: LeftOut,
-    pub(crate) channels: Mutex<Vec<Arc<Mutex<ChannelState>>>>,
+    pub(crate) channels: Mutex<Vec<Arc<ChannelLock<ChannelState>>>>,
     pub(crate) actors: Mutex<Actors>,
     // What orders the calls, in a replay.
     pub(crate) turns: Option<Arc<dyn Turns>>,
@@ -191,7 +192,7 @@ impl Shared {
         let channels = lock(&self.channels);
         let named = (0..).zip(&*channels);
         named
-            .filter_map(|(number, channel)| Some((number, lock(channel).name.clone()?)))
+            .filter_map(|(number, channel)| Some((number, lock(channel).seldom().name.clone()?)))
             .collect()
     }
 
@@ -399,7 +400,7 @@ impl Shared {
 
     /// Adds a channel to the run. If the run is full, the oldest dead channel leaves it. Returns
     /// `false` if there is none, and the channel isn't added.
-    pub(crate) fn add(&self, channel: &Arc<Mutex<ChannelState>>) -> bool {
+    pub(crate) fn add(&self, channel: &Arc<ChannelLock<ChannelState>>) -> bool {
         let mut channels = lock(&self.channels);
         if let [first] = &channels[..] {
             let _first = lock(first);

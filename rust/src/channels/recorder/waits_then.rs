@@ -2,25 +2,25 @@
 //! that they don't wait any more when the test has ended.
 
 use super::Shared;
-use crate::channels::channel::ChannelState;
+use crate::channels::channel::{ChannelState, WaitNow};
+use crate::channels::channel_lock::ChannelLock;
 use crate::channels::lock::try_lock_for;
-use crate::channels::wait::Wait;
-use std::sync::{Arc, Mutex, Weak};
+use std::sync::{Arc, Weak};
 use std::time::Duration;
 
 /// How long a panic waits for the lock of a channel. The thread itself may hold it.
 const PATIENCE: Duration = Duration::from_millis(5);
 
-/// A call that waited.
+/// A call that had begun to wait and had not ended, and what it did then.
 #[derive(Clone)]
 pub(crate) struct WaitThen {
-    channel: Weak<Mutex<ChannelState>>,
-    pub(crate) wait: Wait,
+    channel: Weak<ChannelLock<ChannelState>>,
+    pub(crate) then: WaitNow,
 }
 
 impl WaitThen {
     /// Whether it waited on this channel.
-    pub(crate) fn is_on(&self, channel: &Arc<Mutex<ChannelState>>) -> bool {
+    pub(crate) fn is_on(&self, channel: &Arc<ChannelLock<ChannelState>>) -> bool {
         self.channel.as_ptr() == Arc::as_ptr(channel)
     }
 }
@@ -36,9 +36,9 @@ impl Shared {
             let Some(state) = try_lock_for(channel, PATIENCE) else {
                 continue;
             };
-            waits.extend(state.waits.items().values().map(|wait| WaitThen {
+            waits.extend(state.who_waits().map(|then| WaitThen {
                 channel: Arc::downgrade(channel),
-                wait: *wait,
+                then,
             }));
         }
         waits

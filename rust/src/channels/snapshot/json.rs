@@ -1,7 +1,8 @@
 //! A snapshot as JSON.
 
-use super::{ChannelSnapshot, ReceiverSnapshot, Snapshot, Waits};
+use super::{ChannelSnapshot, NumberedCall, ReceiverSnapshot, Snapshot, Waits};
 use crate::channels::channel::CallSite;
+use crate::run::clock::iso;
 use crate::run::sidecar::Json;
 
 impl Snapshot {
@@ -9,9 +10,11 @@ impl Snapshot {
     /// order of their creation, each on a line of its own.
     ///
     /// The members of a channel and of its `receivers` have the names of the methods. A place in
-    /// the source is a list of its file, line and column. What isn't known, or isn't there, is
+    /// the source is a list of its file, line and column, and a time a text such as
+    /// `2026-11-29T03:12:45.120Z`. What isn't known, or isn't there, is
     /// `null`. `waits` is `null` or an object with the `call`, the place `at`, the stamp `since`,
-    /// and how many `seconds` it has waited.
+    /// and how many `seconds` it has waited; and so is `woken`, of a call that was woken and has
+    /// not gone on since, with the `seconds` since it began to wait.
     ///
     /// # Examples
     ///
@@ -25,7 +28,7 @@ impl Snapshot {
     /// prices.send(101).unwrap();
     /// let json = recorder.snapshot().to_json();
     /// assert!(json.contains(r#""capacity": 2, "sent": 1, "retained": 1, "senders": 1, "weak_senders": 0"#));
-    /// assert!(json.contains(r#""unread": 1, "lag": 0, "lost": 0, "received_at": null, "received_call": null, "waits": null"#));
+    /// assert!(json.contains(r#""unread": 1, "lag": 0, "lost": 0, "received_at": null, "received_call": null, "received_time": null, "waits": null"#));
     /// ```
     pub fn to_json(&self) -> String {
         let mut out = "{\"channels\": [".to_string();
@@ -75,6 +78,8 @@ impl ChannelSnapshot {
                 self.sender.as_deref().map_or(Json::Null, Json::text),
             ),
             ("sent_at", place(self.sent_at)),
+            ("sent_call", number(self.sent_call())),
+            ("sent_time", time(self.sent_last)),
             (
                 "receivers",
                 Json::List(self.receivers.iter().map(receiver).collect()),
@@ -91,8 +96,10 @@ fn receiver(receiver: &ReceiverSnapshot) -> Json {
         ("lag", Json::number(receiver.lag)),
         ("lost", Json::number(receiver.lost)),
         ("received_at", place(receiver.received_at)),
-        ("received_call", number(receiver.received_call)),
+        ("received_call", number(receiver.received_call())),
+        ("received_time", time(receiver.received)),
         ("waits", receiver.waits.as_ref().map_or(Json::Null, waits)),
+        ("woken", receiver.woken.as_ref().map_or(Json::Null, waits)),
     ])
 }
 
@@ -106,6 +113,11 @@ fn waits(waits: &Waits) -> Json {
             number(waits.waited.map(|waited| waited.as_secs_f64())),
         ),
     ])
+}
+
+fn time(call: Option<NumberedCall>) -> Json {
+    let wall = call.and_then(|call| call.wall);
+    wall.map_or(Json::Null, |wall| Json::text(&iso(wall)))
 }
 
 fn number(number: Option<impl std::fmt::Display>) -> Json {

@@ -1,7 +1,8 @@
 //! A snapshot as a table that a person reads.
 
-use super::{ChannelSnapshot, ReceiverSnapshot, Snapshot, Waits};
+use super::{ChannelSnapshot, NumberedCall, ReceiverSnapshot, Snapshot, Waits};
 use crate::channels::channel::CallSite;
+use crate::run::clock::utc;
 use std::fmt;
 
 /// The heads of the columns. Those of numbers are on the right.
@@ -45,6 +46,9 @@ impl fmt::Display for ChannelSnapshot {
         }
         if let Some(sender) = &self.sender {
             write!(f, ", last sent by {sender} at {}", place(self.sent_at))?;
+            if let Some(call) = self.sent_last {
+                write!(f, ", call {call}")?;
+            }
         }
         writeln!(f)?;
         if self.receivers.is_empty() {
@@ -58,8 +62,17 @@ impl fmt::Display for ChannelSnapshot {
     }
 }
 
+impl fmt::Display for NumberedCall {
+    /// Formats it as `67108867 at 2026-11-29 03:12:45.120 UTC`.
+    fn fmt(&self, f: &mut fmt::Formatter<'_>) -> fmt::Result {
+        write!(f, "{}", self.stamp)?;
+        self.wall
+            .map_or(Ok(()), |wall| write!(f, " at {} UTC", utc(wall)))
+    }
+}
+
 fn row(receiver: &ReceiverSnapshot) -> Row {
-    let call = receiver.received_call.map(|stamp| stamp.to_string());
+    let received = receiver.received.map(|call| call.to_string());
     [
         receiver.name.clone(),
         receiver.unread.to_string(),
@@ -67,12 +80,21 @@ fn row(receiver: &ReceiverSnapshot) -> Row {
         receiver.lost.to_string(),
         place(receiver.made_at),
         place(receiver.received_at),
-        call.unwrap_or_else(|| "-".to_string()),
-        receiver.waits.as_ref().map_or("-".to_string(), waits),
+        received.unwrap_or_else(|| "-".to_string()),
+        waits(receiver),
     ]
 }
 
-fn waits(waits: &Waits) -> String {
+/// The call that waits, or that was woken and has not gone on since.
+fn waits(receiver: &ReceiverSnapshot) -> String {
+    match (&receiver.waits, &receiver.woken) {
+        (Some(waits), _) => call(waits),
+        (None, Some(woken)) => format!("woken in {}", call(woken)),
+        (None, None) => "-".to_string(),
+    }
+}
+
+fn call(waits: &Waits) -> String {
     let waited = waits
         .waited
         .map(|waited| format!(" for {:.1} s", waited.as_secs_f64()));

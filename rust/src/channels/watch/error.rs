@@ -1,5 +1,6 @@
 //! Errors of the watch channel.
 
+use crate::channels::recorder::error_is_written;
 use std::error::Error;
 use std::fmt;
 
@@ -26,12 +27,14 @@ pub struct SendError<T>(pub T);
 
 impl<T> fmt::Debug for SendError<T> {
     fn fmt(&self, f: &mut fmt::Formatter<'_>) -> fmt::Result {
+        error_is_written(|| "SendError { .. }".to_string());
         f.debug_struct("SendError").finish_non_exhaustive()
     }
 }
 
 impl<T> fmt::Display for SendError<T> {
     fn fmt(&self, f: &mut fmt::Formatter<'_>) -> fmt::Result {
+        error_is_written(|| "SendError { .. }".to_string());
         write!(f, "channel closed")
     }
 }
@@ -60,11 +63,19 @@ impl<T> Error for SendError<T> {}
 /// drop(config);
 /// assert_eq!(reloaded(&mut rx).unwrap_err().to_string(), "channel closed");
 /// ```
-#[derive(Debug, Clone)]
+#[derive(Clone)]
 pub struct RecvError(pub(crate) ());
+
+impl fmt::Debug for RecvError {
+    fn fmt(&self, f: &mut fmt::Formatter<'_>) -> fmt::Result {
+        error_is_written(|| "RecvError(())".to_string());
+        f.debug_tuple("RecvError").field(&self.0).finish()
+    }
+}
 
 impl fmt::Display for RecvError {
     fn fmt(&self, f: &mut fmt::Formatter<'_>) -> fmt::Result {
+        error_is_written(|| "RecvError(())".to_string());
         write!(f, "channel closed")
     }
 }

@@ -89,9 +89,11 @@ impl<T> Receiver<T> {
             name: "borrow_and_update",
             called_at,
         };
-        self.handle.borrow_by(permit, method, |channel| {
+        self.handle.borrow_by(permit, &method, |channel| {
+            let has_changed = !channel.has_seen();
             channel.call(CoreChannel::watch_update);
             channel.note_receive(self.handle.slot);
+            has_changed
         })
     }
 
@@ -299,9 +301,11 @@ impl<T> Receiver<T> {
                 {
                     let (word, called_at) = (Operation::WaitFor, method.called_at);
                     let permit = self.handle.turn(word, called_at).await;
-                    let value = self.handle.borrow_by(permit, method, |channel| {
+                    let value = self.handle.borrow_by(permit, &method, |channel| {
+                        let has_changed = !channel.has_seen();
                         channel.call_that_waits(CoreChannel::watch_update);
                         channel.note_receive(self.handle.slot);
+                        has_changed
                     });
                     if self.handle.channel.values.run_reading(|| f(&value)) {
                         return Ok(value);

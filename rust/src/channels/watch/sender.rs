@@ -8,12 +8,11 @@ use crate::channels::of_version::only_if_tokio_has;
 use crate::channels::recorder::{Handle, RecordedHandle, TextOf};
 use crate::channels::turns::Permit;
 use crate::channels::wait::{Method, WaitFor};
-use crate::core::source::rw_waiting::Notice;
+use crate::core::source::rw_values::store_sent;
 use crate::run::operation::Operation;
 use crate::run::reply::Reply;
 use std::future::Future;
-use std::sync::RwLockWriteGuard;
-use std::{fmt, mem, panic};
+use std::{fmt, panic};
 
 /// The sending half of a watch channel.
 ///
@@ -94,38 +93,43 @@ impl<T> Sender<T> {
     /// assert_eq!(*config.subscribe().borrow(), "log = debug");
     /// ```
     #[track_caller]
-    pub fn send(&self, value: T) -> Result<(), SendError<T>> {
-        if self.handle.channel.has_text_of() {
-            self.send_with_text(value, call_site())
+    pub fn send(&self, mut value: T) -> Result<(), SendError<T>> {
+        let is_sent = if self.handle.channel.has_text_of() {
+            self.send_with_text(&mut value, call_site())
         } else {
-            self.send_with(value, None, call_site())
+            self.send_with(&mut value, None, call_site())
+        };
+        // Of a value that was sent, the one before is in its place, and is dropped here.
+        if is_sent {
+            Ok(())
+        } else {
+            Err(SendError(value))
         }
     }
 
     /// Sends a value with its text. It is apart, so that what is sent without one carries nothing
     /// of it.
     #[cold]
-    fn send_with_text(&self, value: T, called_at: CallSite) -> Result<(), SendError<T>> {
-        let text = self.handle.channel.text(&value);
+    fn send_with_text(&self, value: &mut T, called_at: CallSite) -> bool {
+        let text = self.handle.channel.text(value);
         self.send_with(value, text, called_at)
     }
 
-    /// Sends a value, given its text if it has one.
+    /// Sends a value, given its text if it has one. It swaps the value with the one before, so
+    /// that a large one isn't moved from one part of the call to the next. Returns whether there
+    /// was a receiver, and else has changed nothing.
     #[inline(always)]
-    fn send_with(
-        &self,
-        value: T,
-        text: Option<String>,
-        called_at: CallSite,
-    ) -> Result<(), SendError<T>> {
+    fn send_with(&self, value: &mut T, text: Option<String>, called_at: CallSite) -> bool {
         let permit = self.handle.pass(Operation::Send, called_at);
-        match self.handle.channel.values.try_write() {
-            Some(stored) => {
-                let channel = self.handle.lock_with(permit, called_at);
-                send_to(stored, channel, value, text)
-            }
-            None => self.send_to_locked(value, text, permit, called_at),
-        }
+        let Some(mut stored) = self.handle.channel.values.try_write() else {
+            return self.send_to_locked(value, text, permit, called_at);
+        };
+        let mut channel = self.handle.lock_with(permit, called_at);
+        let reply = send_to(&mut *stored, &mut channel, value, text);
+        // A waker may look at the value, so it is unlocked before those who wait for it are woken.
+        drop(stored);
+        channel.unlock_and_wake(reply);
+        reply.says_stored()
     }
 
     /// Sends a value while the one before is locked, perhaps by this thread. Without receivers the
@@ -133,25 +137,28 @@ impl<T> Sender<T> {
     #[cold]
     fn send_to_locked<'a>(
         &'a self,
-        value: T,
+        value: &mut T,
         text: Option<String>,
         permit: Option<Permit<'a>>,
         called_at: CallSite,
-    ) -> Result<(), SendError<T>> {
+    ) -> bool {
         let mut channel = self.handle.lock_with(permit, called_at);
         if channel.core().receivers() == 0 {
             let (_, reply) = channel.send(text, CoreChannel::watch_send);
             assert!(matches!(reply, Reply::NoReceivers(_)), "{reply:?}");
-            return Err(SendError(value));
+            return false;
         }
         let permit = channel.into_permit();
         let method = Method {
             name: "send",
             called_at,
         };
-        let stored = self.handle.write_value(method);
-        let channel = self.handle.lock_with(permit, called_at);
-        send_to(stored, channel, value, text)
+        let mut stored = self.handle.write_value(method);
+        let mut channel = self.handle.lock_with(permit, called_at);
+        let reply = send_to(&mut *stored, &mut channel, value, text);
+        drop(stored);
+        channel.unlock_and_wake(reply);
+        reply.says_stored()
     }
 
     /// Changes the value where it is stored, and notifies all receivers.
@@ -260,7 +267,7 @@ impl<T> Sender<T> {
             Err(panicked) => (None, Some(panicked)),
         };
         let mut channel = self.handle.lock(Operation::Modify, called_at);
-        channel.send(
+        let (_, reply) = channel.send(
             text,
             if notify {
                 |core, caller, sender, number| core.watch_modify(caller, sender, true, number)
@@ -269,11 +276,7 @@ impl<T> Sender<T> {
             },
         );
         drop(value);
-        if notify {
-            channel.unlock_and_wake(Notice::Sent)
-        } else {
-            channel.unlock()
-        }
+        channel.unlock_and_wake(reply);
         match (result, text_panic) {
             (Err(panicked), _) | (Ok(_), Some(panicked)) => panic::resume_unwind(panicked),
             (Ok(is_modified), None) => is_modified,
@@ -296,18 +299,18 @@ impl<T> Sender<T> {
     /// assert_eq!(*config.subscribe().borrow(), "log = debug");
     /// ```
     #[track_caller]
-    pub fn send_replace(&self, value: T) -> T {
+    pub fn send_replace(&self, mut value: T) -> T {
         let text = self.handle.channel.text(&value);
         let method = Method::called("send_replace");
         let called_at = method.called_at;
         let permit = self.handle.pass(Operation::SendReplace, called_at);
         let mut stored = self.handle.write_value(method);
         let mut channel = self.handle.lock_with(permit, called_at);
-        channel.send(text, CoreChannel::watch_send_replace);
-        let before = mem::replace(&mut *stored, value);
+        let (_, reply) = channel.send(text, CoreChannel::watch_send_replace);
+        store_sent(&mut *stored, &mut value, reply.says_stored());
         drop(stored);
-        channel.unlock_and_wake(Notice::Sent);
-        before
+        channel.unlock_and_wake(reply);
+        value
     }
 
     /// Returns a reference to the last value.
@@ -478,23 +481,17 @@ impl<T> Sender<T> {
 }
 
 /// Makes the call that sends a value, and stores the value if there is a receiver.
+// What is locked is lent: if it was moved here, it would be stored in memory once more.
 #[inline(always)]
 fn send_to<T>(
-    mut stored: RwLockWriteGuard<'_, T>,
-    mut channel: LockedChannel<'_>,
-    value: T,
+    stored: &mut T,
+    channel: &mut LockedChannel<'_>,
+    value: &mut T,
     text: Option<String>,
-) -> Result<(), SendError<T>> {
+) -> Reply {
     let (_, reply) = channel.send(text, CoreChannel::watch_send);
-    if matches!(reply, Reply::NoReceivers(_)) {
-        return Err(SendError(value));
-    }
-    let before = mem::replace(&mut *stored, value);
-    // A waker may look at the value, so it is unlocked before those who wait for it are woken.
-    drop(stored);
-    channel.unlock_and_wake(Notice::Sent);
-    drop(before);
-    Ok(())
+    store_sent(stored, value, reply.says_stored());
+    reply
 }
 
 impl<T> Clone for Sender<T> {

@@ -1,9 +1,11 @@
 //! The value of a watch, and the lock that guards it.
+#![allow(unsafe_code)]
 
 use super::looks::LiveLooks;
 use crate::channels::lock::lock;
 use crate::channels::reentrant::thread_number;
 use std::fmt;
+use std::mem::MaybeUninit;
 use std::panic::{self, AssertUnwindSafe};
 use std::sync::atomic::{AtomicUsize, Ordering};
 use std::sync::{
@@ -25,12 +27,17 @@ pub(super) struct ValueLock<T> {
 }
 
 impl<T> ValueLock<T> {
-    pub(super) fn new(value: T) -> ValueLock<T> {
-        ValueLock {
-            value: RwLock::new(value),
-            changed_by: AtomicUsize::new(0),
-            read_by: Mutex::default(),
-            looks: LiveLooks::default(),
+    /// Writes the lock of this value into its place, part by part: the value may be large, and
+    /// nothing with it is moved.
+    pub(super) fn store(place: &mut MaybeUninit<ValueLock<T>>, value: T) -> &mut ValueLock<T> {
+        let lock = place.as_mut_ptr();
+        // SAFETY: all parts are written, each into its place, before the whole is said to be.
+        unsafe {
+            (&raw mut (*lock).value).write(RwLock::new(value));
+            (&raw mut (*lock).changed_by).write(AtomicUsize::new(0));
+            (&raw mut (*lock).read_by).write(Mutex::default());
+            (&raw mut (*lock).looks).write(LiveLooks::default());
+            place.assume_init_mut()
         }
     }
 

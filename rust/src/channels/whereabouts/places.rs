@@ -1,7 +1,7 @@
 //! The places where tasks wait, of the whole process. A stack is captured once for each.
 
-use super::WatchedTest;
-use super::frames;
+use super::frames::{StackWalk, address_of};
+use super::{WatchedTest, remembered};
 use crate::channels::lock::lock;
 use std::backtrace::Backtrace;
 use std::collections::HashMap;
@@ -59,17 +59,48 @@ pub(crate) fn kept_place(number: PlaceNumber) -> Option<KeptPlace> {
     lock(&PLACES).kept.get(index as usize).cloned()
 }
 
-/// Returns the current place, as far as the frame that has this address. What it costs is noted.
-pub(super) fn here(watched: &WatchedTest, now: u64, limit: Option<usize>) -> PlaceNumber {
-    let key = frames::key(limit);
+/// Returns the current place, as far as the frame that has this address. One that isn't remembered
+/// is looked at only if `may_look`, and what that costs is noted.
+// Its frame is the first one that is compared: it is the same in each call.
+#[inline(never)]
+pub(super) fn here(
+    watched: &WatchedTest,
+    limit: Option<usize>,
+    may_look: &dyn Fn(u64) -> bool,
+) -> PlaceNumber {
+    let mark = 0;
+    let mark = address_of(&mark);
+    if let Some(known) = limit.and_then(|limit| remembered::place(mark, limit)) {
+        return known;
+    }
+    let now = watched.now();
+    if !may_look(now) {
+        return PlaceNumber::UNKNOWN;
+    }
+    let walk = StackWalk::from(mark, limit);
+    let place = of_stack(walk.as_ref());
+    if let (Some(walk), Some(limit)) = (walk, limit) {
+        remembered::remember(mark, limit, &walk, place);
+    }
+    watched.budget.spend(watched.now().saturating_sub(now));
+    place
+}
+
+/// Returns the current place by its whole stack. It is looked at each time.
+#[inline(never)]
+pub(crate) fn current_place() -> PlaceNumber {
+    let mark = 0;
+    of_stack(StackWalk::from(address_of(&mark), None).as_ref())
+}
+
+fn of_stack(walk: Option<&StackWalk>) -> PlaceNumber {
+    let key = walk.map(|walk| walk.key);
     let known = key.and_then(|key| lock(&PLACES).by_key.get(&key).copied());
-    let place = known.unwrap_or_else(|| {
+    known.unwrap_or_else(|| {
         // It is captured while nothing is locked.
         let stack = KeptPlace::Stack(Arc::new(Backtrace::force_capture()));
         lock(&PLACES).add(key, stack)
-    });
-    watched.budget.spend(watched.now().saturating_sub(now));
-    place
+    })
 }
 
 /// Returns the place of a call of a channel of this crate. Its stack isn't needed.

@@ -178,6 +178,13 @@ impl WatchedTask {
         }
     }
 
+    /// Returns the last place where its last poll has kept its waker.
+    pub(super) fn waits_at(&self) -> Option<PlaceNumber> {
+        let state = lock(&self.state);
+        let kept = state.polls.back()?.places.iter().flatten().next();
+        kept.copied().filter(|place| *place != PlaceNumber::UNKNOWN)
+    }
+
     /// Notes the actor that this thread runs, while the task is polled by it.
     pub(super) fn note_actor(&self) {
         let actor = number_of_caller(self.watched.recorder_id);
@@ -188,7 +195,11 @@ impl WatchedTask {
     /// Returns the place where the waker of the current poll is cloned. `limit` is the address of
     /// the poll's frame.
     pub(super) fn place(&self, limit: usize) -> PlaceNumber {
-        let now = self.watched.now();
+        places::here(&self.watched, Some(limit), &|now| self.may_look(now))
+    }
+
+    /// Whether it is looked where the current poll waits. If not, that is noted.
+    fn may_look(&self, now: u64) -> bool {
         let (poll, waited) = {
             let state = lock(&self.state);
             let mut last = state.polls.iter().rev();
@@ -199,13 +210,12 @@ impl WatchedTask {
                 end.map_or(u64::MAX, |end| begin.saturating_sub(end)),
             )
         };
-        if self.watched.budget.allows(now, poll, waited) {
-            places::here(&self.watched, now, Some(limit))
-        } else {
-            self.watched
-                .leave_unknown(self.watched.last().unwrap_or(u64::MAX));
-            PlaceNumber::UNKNOWN
+        let may_look = self.watched.budget.allows(now, poll, waited);
+        if !may_look {
+            let stamp = self.watched.last();
+            self.watched.leave_unknown(stamp.unwrap_or(u64::MAX));
         }
+        may_look
     }
 
     /// Notes that one more waker of the poll with this number is kept at this place.
@@ -248,11 +258,14 @@ impl WatchedTask {
             return;
         };
         let waited = end.map_or(0, |end| at.saturating_sub(end));
-        // After a short wait without a call, it makes no difference.
-        let matters = end.is_some() && (waited >= budget::LONG || stamp > after);
+        // After a short wait without a call, it makes no difference. By a clock that is paused, a
+        // short one may be long.
+        let is_long = waited >= budget::LONG || self.watched.is_paused.load(Ordering::Relaxed);
+        let matters = end.is_some() && (is_long || stamp > after);
+        let may_look = |now| self.watched.budget.allows(now, count, waited);
         let place = |limit| {
-            if matters && self.watched.budget.allows(at, count, waited) {
-                places::here(&self.watched, at, limit)
+            if matters {
+                places::here(&self.watched, limit, &may_look)
             } else {
                 PlaceNumber::UNKNOWN
             }

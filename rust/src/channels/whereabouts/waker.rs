@@ -2,8 +2,23 @@
 //!
 //! The waker that a poll is given stands on the stack, and is only lent. A clone of it is on the
 //! heap: an `Arc` of its own for each place, that wakes what the poll's own context wakes.
-//! `std::task::Wake` would not do: nobody is told where an `Arc` is cloned.
+//! `std::task::Wake` would not do: nobody is told where an `Arc` is cloned, which is what all is
+//! about. So both tables are written by hand, by the rules of `RawWakerVTable`:
+//!
+//! - *Each function may be called by any thread, and by several at once.* What the data of a waker
+//!   refers to is checked to be `Sync`, and that of a clone to be `Send`, since any thread may drop
+//!   it. What changes of them is a `OnceLock`, atomic, or the count of an `Arc`.
+//! - *`clone` retains what the new waker needs, which wakes the same task.* A clone is an `Arc`
+//!   with a waker of its own of that task. It needs nothing of the poll.
+//! - *`wake` and `drop` release it, and `wake_by_ref` does not.* Those of a clone take back the
+//!   count that `Arc::into_raw` has given, also where the task's own waker panics. A lent waker
+//!   owns nothing: it is never dropped, and is had by reference alone, no longer than its poll.
+//! - *The data is that of a waker with this table.* It is made by `raw` and `clone_kept` for the
+//!   one, and by `poll` for the other.
 #![allow(unsafe_code)]
+
+#[cfg(test)]
+mod tests;
 
 use super::places::{self, PlaceNumber};
 use super::task::WatchedTask;
@@ -48,8 +63,10 @@ thread_local! {
 }
 
 const fn is_shared<T: Sync>() {}
+const fn is_sent<T: Send>() {}
 const _: () = is_shared::<RunningPoll<'static>>();
 const _: () = is_shared::<KeptWaker>();
+const _: () = is_sent::<KeptWaker>();
 
 // SAFETY of both tables: the functions may be called by any thread, and what they refer to may be
 // shared (above). The data of the first one is a `RunningPoll` that outlives each borrow of its
@@ -58,6 +75,22 @@ const _: () = is_shared::<KeptWaker>();
 static LENT: RawWakerVTable = RawWakerVTable::new(clone_lent, wake_lent, wake_lent, drop_lent);
 static KEPT: RawWakerVTable =
     RawWakerVTable::new(clone_kept, wake_kept, wake_kept_by_ref, drop_kept);
+
+/// While this is alive, all clones that this thread makes have a place that is given.
+struct GivenPlace(Option<PlaceNumber>);
+
+impl GivenPlace {
+    fn of(place: PlaceNumber) -> GivenPlace {
+        GivenPlace(GIVEN.replace(Some(place)))
+    }
+}
+
+impl Drop for GivenPlace {
+    /// A waker that is cloned may panic.
+    fn drop(&mut self) {
+        GIVEN.set(self.0);
+    }
+}
 
 /// Returns the poll with this address.
 ///
@@ -102,10 +135,10 @@ pub(super) fn ended() -> Option<u64> {
     ENDED.get()
 }
 
-/// Notes that a task ends on this thread.
-pub(super) fn note_end(task: u64) {
+/// Notes that a task ends on this thread, or one that isn't seen.
+pub(super) fn note_end(task: Option<u64>) {
     // A thread that ends may drop it.
-    let _ = ENDED.try_with(|ended| ended.set(Some(task)));
+    let _ = ENDED.try_with(|ended| ended.set(task));
 }
 
 /// Has the polls of this thread seen by the recorder that is created in them.
@@ -143,17 +176,16 @@ impl RunningPoll<'_> {
             self.bind();
         }
         let of = self.of.get();
-        let place = of.filter(|_| is_here).map(|(task, number)| {
-            let place = GIVEN.get();
-            let place = place.unwrap_or_else(|| task.place(ptr::from_ref(self).addr()));
-            task.keeps(*number, place);
-            place
+        let place = of.filter(|_| is_here).map(|(task, _)| {
+            let given = GIVEN.get();
+            given.unwrap_or_else(|| task.place(ptr::from_ref(self).addr()))
         });
         // A poll around this one waits at the same place.
-        let given = place.map(|place| GIVEN.replace(Some(place)));
+        let given = place.map(GivenPlace::of);
         let inner = self.inner.clone();
-        if let Some(before) = given {
-            GIVEN.set(before);
+        drop(given);
+        if let (Some((task, number)), Some(place)) = (of, place) {
+            task.keeps(*number, place);
         }
         KeptWaker {
             inner,
@@ -266,10 +298,8 @@ pub(crate) fn renews(queued: &Waker, lent: &Waker) -> bool {
 pub(crate) fn waker_of_call(method: &Method, context: &Context<'_>) -> Waker {
     match method.called_at {
         Some(at) if is_any_test() && !RUNNING.get().is_null() => {
-            let before = GIVEN.replace(Some(places::of_call(method.name, at)));
-            let waker = context.waker().clone();
-            GIVEN.set(before);
-            waker
+            let _given = GivenPlace::of(places::of_call(method.name, at));
+            context.waker().clone()
         }
         _ => context.waker().clone(),
     }

@@ -49,12 +49,6 @@ impl<K: Ord, V> BTreeMap<K, V> {
         self.0.remove(key)
     }
 
-    /// Rattle's clause: the iterator yields references to `values S`, in this order.
-    #[inline]
-    pub fn values(&self) -> btree_map::Values<'_, K, V> {
-        self.0.values()
-    }
-
     /// Rattle's clause: the iterator yields `values S`, in this order.
     #[inline]
     pub fn into_values(self) -> btree_map::IntoValues<K, V> {

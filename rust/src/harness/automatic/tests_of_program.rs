@@ -17,6 +17,8 @@ struct TestFunction {
     name: String,
     should_panic: bool,
     is_async: bool,
+    // Whether it returns more than `()`.
+    returns: bool,
     source: PathBuf,
     /// The lines from its keyword to its end, where rustfmt puts that.
     lines: Option<RangeInclusive<u32>>,
@@ -64,6 +66,12 @@ pub(super) fn is_async(path: &str) -> bool {
     let of_name = tests().and_then(|tests| of_thread(tests, path));
     let mut found = of_name.into_iter().flatten().peekable();
     found.peek().is_some() && found.all(|test| test.is_async)
+}
+
+/// Whether the test with this path returns something, such as a `Result`.
+pub(super) fn returns(path: &str) -> bool {
+    let of_name = tests().and_then(|tests| of_thread(tests, path));
+    of_name.into_iter().flatten().any(|test| test.returns)
 }
 
 /// Returns the test whose function has this place in the sources: its name, and its path if that is
@@ -136,6 +144,7 @@ fn tests_in(path: &Path, text: &str, is_root: bool) -> Vec<TestFunction> {
             name: name.to_string(),
             should_panic,
             is_async,
+            returns: rest.split('{').next().is_some_and(|it| it.contains("->")),
             source: path.to_path_buf(),
             lines: lines_of(&lines, first),
             is_at_root: is_root && !lines[first].starts_with(char::is_whitespace),
@@ -239,7 +248,7 @@ mod tests {
             /// Says what it tests.
             #[tokio::test(flavor = "multi_thread", worker_threads = 2)]
             // A reason.
-            pub async fn on_tokio() { fn helper() {} }
+            pub async fn on_tokio() -> Result<(), RecvError> { fn helper() {} }
             #[test] #[should_panic(expected = "a[0]")]
             fn refused() { let worker = "fn text"; }
             #[rstest]
@@ -253,12 +262,12 @@ mod tests {
         let found = tests_in(Path::new("tests/bus.rs"), source, true);
         let told = found
             .iter()
-            .map(|test| (&*test.name, test.should_panic, test.is_async));
+            .map(|test| (&*test.name, test.should_panic, test.is_async, test.returns));
         let wanted = [
-            ("plain", false, false),
-            ("on_tokio", false, true),
-            ("refused", true, false),
-            ("cases", false, true),
+            ("plain", false, false, false),
+            ("on_tokio", false, true, true),
+            ("refused", true, false, false),
+            ("cases", false, true, false),
         ];
         assert_eq!(told.collect::<Vec<_>>(), wanted);
         assert!(found.iter().all(|test| !test.is_at_root));

@@ -1,5 +1,6 @@
 //! What was tried: how many runs were made and what they were, in words and as JSON.
 
+use super::covered::CoveredPairs;
 use super::failing_order::FailingOrder;
 use super::process::FailureMark;
 use super::search::{Search, Task};
@@ -31,17 +32,30 @@ pub(super) struct Counts {
     pub(super) runs: u64,
     by_strategy: BTreeMap<&'static str, u64>,
     pub(super) orders: HashSet<u64>,
+    covered: CoveredPairs,
     steps: u64,
     restless: u64,
     unnamed: u64,
     too_long: u64,
     /// How many recorded nothing, and the likely cause.
     nothing: u64,
+    /// How many recorded nothing, and chose polls of named tasks.
+    polls_alone: u64,
     cause: Option<String>,
     by_clock: bool,
+    /// How many have failed by time, and not by their order.
+    pub(super) by_time: u64,
+    /// How many failed beside others and passed alone, and how the first one did.
+    clashes: u64,
+    clash: Option<String>,
 }
 
 impl Counts {
+    /// How many runs were made up to one that has failed.
+    pub(super) fn made(&self) -> u64 {
+        self.runs + self.by_time
+    }
+
     pub(super) fn add(&mut self, task: &Task, schedule: &Schedule) {
         self.runs += 1;
         *self.by_strategy.entry(task.order.strategy()).or_default() += 1;
@@ -50,13 +64,39 @@ impl Counts {
             (&step.who, format!("{:?}", step.what)).hash(&mut order);
         }
         self.orders.insert(order.finish());
+        self.covered.add(schedule);
         self.steps += schedule.steps.len() as u64;
         self.restless += u64::from(schedule.restless);
         self.unnamed += u64::from(schedule.unnamed);
         self.too_long += u64::from(schedule.was_too_long);
         self.by_clock |= schedule.by_clock;
-        self.nothing += u64::from(schedule.nothing.is_some());
+        self.nothing += u64::from(schedule.nothing.is_some() && !schedule.polls_alone);
+        self.polls_alone += u64::from(schedule.polls_alone);
         self.cause = self.cause.take().or_else(|| schedule.nothing.clone());
+    }
+
+    /// Adds a run that failed in these words beside others, and passed alone. Returns `true` if it
+    /// is the first one.
+    pub(super) fn add_clash(&mut self, told: &str) -> bool {
+        self.clashes += 1;
+        let is_first = self.clash.is_none();
+        self.clash.get_or_insert_with(|| told.to_string());
+        is_first
+    }
+
+    /// Whether a run failed that passes alone.
+    pub(super) fn has_clash(&self) -> bool {
+        self.clash.is_some()
+    }
+
+    /// Says that runs clash, if they do.
+    pub(super) fn clash_in_words(&self) -> Option<String> {
+        let told = self.clash.as_ref()?;
+        let runs = visible::counted(self.clashes, "run");
+        Some(format!(
+            "{runs} failed beside others and passed alone, as where they share a port or a file: {told}; \
+            YOVANELUM_EXPLORE_JOBS=1 runs one at a time"
+        ))
     }
 
     /// Whether no run has recorded anything.
@@ -135,6 +175,15 @@ impl Counts {
         if !parts.is_empty() {
             let _ = write!(text, ": {}", parts.join("; "));
         }
+        self.push_remarks(&mut text);
+        text
+    }
+
+    /// Adds what is to be known of the runs, and what wasn't chosen in them.
+    fn push_remarks(&self, text: &mut String) {
+        if self.runs > 0 {
+            let _ = write!(text, "\n  {}", self.covered.in_words());
+        }
         let _ = write!(
             text,
             "\n  {} of {} steps were chosen while a thread ran",
@@ -157,12 +206,30 @@ impl Counts {
         if self.by_clock {
             let _ = write!(text, "; {BY_CLOCK}");
         }
+        if self.by_time > 0 {
+            let runs = visible::counted(self.by_time, "run");
+            let _ = write!(
+                text,
+                "\n  {runs} beside them failed by time: a timer ended that no choice let end, at half the speed after fewer steps"
+            );
+        }
+        if let Some(clash) = self.clash_in_words() {
+            let _ = write!(text, "\n  {clash}");
+        }
         if self.nothing > 0 {
             let cause = self.cause.as_deref().unwrap_or_default();
             let _ = write!(
                 text,
                 "\n  {} of {} runs recorded nothing: {cause}",
                 self.nothing, self.runs
+            );
+        }
+        if self.polls_alone > 0 {
+            let cause = self.cause.as_deref().unwrap_or_default();
+            let _ = write!(
+                text,
+                "\n  {} of {} runs recorded nothing, and chose polls of named tasks alone: {cause}",
+                self.polls_alone, self.runs
             );
         }
         // Under the patch they are.
@@ -175,7 +242,6 @@ impl Counts {
             text,
             "\n  not chosen: {tasks}what happens between two calls or polls: atomics, locks, other channels"
         );
-        text
     }
 
     /// Returns all as one JSON object.
@@ -215,8 +281,14 @@ impl Counts {
         );
         let _ = write!(
             json,
-            ", \"unnamedCalls\": {}, \"tooLong\": {}, \"nothingRecorded\": {}",
-            self.unnamed, self.too_long, self.nothing
+            ", \"unnamedCalls\": {}, \"tooLong\": {}, \"nothingRecorded\": {}, \"failedByTime\": {}, \"clashes\": {}",
+            self.unnamed, self.too_long, self.nothing, self.by_time, self.clashes
+        );
+        let covered = self.covered.counts();
+        let _ = write!(
+            json,
+            ", \"pairs\": {}, \"pairsInBothOrders\": {}, \"pairsAreCut\": {}",
+            covered.seen, covered.in_both_orders, self.covered.is_cut
         );
         let (met, failure) = match found {
             Some(found) if found.failure.is_met() => (Some(found), None),

@@ -3,15 +3,21 @@
 use super::answer::Answer;
 use super::counts::{AskedCondition, BY_CLOCK, Counts, all};
 use super::process::FailureMark;
-use super::race;
+use super::race::{self, Race};
 use super::search::{Search, Task};
 use super::shorten::Failing;
+use super::tries::Tries;
+use crate::harness::automatic::is_under_command;
+use crate::harness::replay_line::quoted;
 use crate::run::account::visible;
 use crate::run::sidecar::push_string;
-use crate::schedule::explore::{Order, OrderKind};
+use crate::schedule::explore::{Order, OrderKind, POINTS, has_points};
 use std::fmt::Write;
 use std::path::{Path, PathBuf};
 use std::time::Duration;
+
+/// How many milliseconds are lost at least where a run may have failed by time.
+pub(super) const LEAST_LOST: u32 = 50;
 
 /// A failing order, and what brings it back.
 pub(super) struct FailingOrder {
@@ -24,12 +30,16 @@ pub(super) struct FailingOrder {
     pub(super) failure: FailureMark,
     /// The call that met the condition first, if one did.
     met: Option<u64>,
-    pub(super) by_journal: usize,
-    pub(super) by_schedule: usize,
+    /// How often the journal brought it back, if there is one, and the choices.
+    pub(super) by_journal: Option<Tries>,
+    pub(super) by_schedule: Tries,
     /// By the order's name.
-    pub(super) by_order: usize,
+    pub(super) by_order: Tries,
     pub(super) journal: Option<PathBuf>,
     pub(super) schedule: Option<PathBuf>,
+    pub(super) race: Race,
+    /// The number of the run that failed first, and when it had.
+    pub(super) run: (u64, Duration),
 }
 
 impl FailingOrder {
@@ -44,11 +54,13 @@ impl FailingOrder {
                 Some(Answer::Met(call)) => Some(call),
                 _ => None,
             },
-            by_journal: 0,
-            by_schedule: 0,
-            by_order: 0,
+            by_journal: None,
+            by_schedule: Tries::default(),
+            by_order: Tries::default(),
             journal: None,
             schedule: None,
+            race: Race::Unknown,
+            run: Default::default(),
         }
     }
 
@@ -61,11 +73,13 @@ impl FailingOrder {
             switches: 0,
             failure: failure.clone(),
             met: None,
-            by_journal: 0,
-            by_schedule: 0,
-            by_order: 0,
+            by_journal: None,
+            by_schedule: Tries::default(),
+            by_order: Tries::default(),
             journal: None,
             schedule: None,
+            race: Race::Unknown,
+            run: Default::default(),
         }
     }
 
@@ -77,6 +91,24 @@ impl FailingOrder {
         }
     }
 
+    /// Whether nothing brings it back in half of its tries.
+    pub(super) fn is_by_chance(&self) -> bool {
+        self.best_tries().are_seldom()
+    }
+
+    fn best_tries(&self) -> Tries {
+        let mut best = self.by_order;
+        for tries in [Some(self.by_schedule), self.by_journal]
+            .into_iter()
+            .flatten()
+        {
+            if tries.are_more_than(best) {
+                best = tries;
+            }
+        }
+        best
+    }
+
     /// Says what was found.
     pub(super) fn in_words(
         &self,
@@ -85,9 +117,51 @@ impl FailingOrder {
         counts: &Counts,
         search: &Search,
         failing: &Failing,
-        took: Duration,
     ) -> String {
+        let asked = asked.filter(|_| self.failure.is_met());
         let mut text = format!("explored {name}: ");
+        if self.is_by_chance() {
+            let verb = if asked.is_some() { "is met" } else { "fails" };
+            let _ = write!(
+                text,
+                "{verb} by chance as much as by order: {}; ",
+                self.best_tries()
+            );
+        }
+        let verb = match asked {
+            Some(asked) => format!("met `{}`", asked.text),
+            None => "failed".to_string(),
+        };
+        self.push_which(&mut text, search);
+        let (run, took) = (self.run.0, self.run.1.as_secs_f64());
+        let _ = writeln!(text, " {verb}, in run {run} ({took:.1} s)");
+        if !self.is_by_chance() {
+            text.push_str(&self.race.in_words(self.failure.is_met()));
+            text.push_str(&race::in_words(&failing.schedule));
+        }
+        self.push_tries(&mut text);
+        if failing.schedule.lost >= LEAST_LOST {
+            let lost = failing.schedule.lost;
+            let _ = writeln!(
+                text,
+                "  timers of the machine's clock went on for {lost} ms while tasks were held"
+            );
+        }
+        if failing.schedule.by_clock {
+            let _ = writeln!(text, "  {BY_CLOCK}");
+        }
+        if let Some(clash) = counts.clash_in_words() {
+            let _ = writeln!(text, "  {clash}");
+        }
+        text.push_str(&failing.ran.said);
+        if self.by_order.failed > 0 && !self.is_by_chance() {
+            let _ = write!(text, "again:  {}", self.again(name, &failing.ran.said));
+        }
+        text
+    }
+
+    /// Says which order was found, and which passed before.
+    fn push_which(&self, text: &mut String, search: &Search) {
         match (search.passed[0], self.by_search) {
             (0, _) | (_, Some(0)) => (),
             (passed, _) if search.all_with_at_most().is_some() => {
@@ -98,64 +172,53 @@ impl FailingOrder {
                 let _ = write!(text, "{orders} without a switch passed; ");
             }
         }
-        let verb = match asked.filter(|_| self.failure.is_met()) {
-            Some(asked) => format!("met `{}`", asked.text),
-            None => "failed".to_string(),
-        };
         let _ = match self.by_search {
-            Some(0) if self.switches == 0 => write!(text, "an order without a switch {verb}"),
-            Some(0) => write!(text, "an order of the search {verb}"),
+            Some(0) if self.switches == 0 => write!(text, "an order without a switch"),
+            Some(0) => write!(text, "an order of the search"),
             Some(_) => {
                 let number = search.passed[1] + 1;
                 let known = (search.passed[1] as usize + search.waiting(1)).max(number as usize);
-                write!(
-                    text,
-                    "the {} of {known} with one switch {verb}",
-                    nth(number)
-                )
+                write!(text, "the {} of {known} with one switch", nth(number))
             }
             None => match self.first.kind {
                 OrderKind::Guided { .. } | OrderKind::Random(_) => {
-                    write!(text, "a {} order {verb}", self.first.strategy())
+                    write!(text, "a {} order", self.first.strategy())
                 }
                 OrderKind::Steps(_) | OrderKind::File(_) => {
-                    write!(text, "the order {} {verb}", self.first)
+                    write!(text, "the order {}", self.first)
                 }
-                _ => write!(text, "an order by {} {verb}", self.first.strategy()),
+                _ => write!(text, "an order by {}", self.first.strategy()),
             },
         };
-        let _ = writeln!(
-            text,
-            ", in run {} ({:.1} s)",
-            counts.runs,
-            took.as_secs_f64()
-        );
-        text.push_str(&race::in_words(&failing.schedule));
-        let _ = writeln!(
-            text,
-            "  the journal brings it back {} of 10, the schedule's file {} of 10, the order {} {} of 10",
-            self.by_journal,
-            self.by_schedule,
-            self.order_again(),
-            self.by_order
-        );
-        if failing.schedule.by_clock {
-            let _ = writeln!(text, "  {BY_CLOCK}");
-        }
-        text.push_str(&failing.ran.said);
-        if self.by_order > 0 {
-            let _ = write!(text, "again:  {}", self.again(name, &failing.ran.said));
-        }
-        text
     }
 
-    /// Returns the command that makes this order again: the one that replays its journal, with
-    /// other variables.
+    /// Says what brings it back, and how often.
+    fn push_tries(&self, text: &mut String) {
+        let (schedule, order, name) = (self.by_schedule, self.by_order, self.order_again());
+        let _ = match self.by_journal {
+            Some(journal) => writeln!(
+                text,
+                "  the journal brings it back {journal}, the schedule's file {schedule}, the order {name} {order}"
+            ),
+            None => writeln!(
+                text,
+                "  the schedule's file brings it back {schedule}, the order {name} {order}"
+            ),
+        };
+    }
+
+    /// Returns the command that makes this order again: that of `cargo yovanelum`, or the one that
+    /// replays its journal, with other variables.
     fn again(&self, name: &str, said: &str) -> String {
-        let variables = format!(
-            "YOVANELUM_EXPLORE=1 YOVANELUM_EXPLORE_FROM={}",
-            self.order_again()
-        );
+        let mut variables = format!("YOVANELUM_EXPLORE_FROM={}", self.order_again());
+        if has_points() {
+            let _ = write!(variables, " {POINTS}=all");
+        }
+        if is_under_command() {
+            let name = quoted(name);
+            return format!("{variables} cargo yovanelum explore {name} --runs 1");
+        }
+        let variables = format!("YOVANELUM_EXPLORE=1 {variables}");
         let replay = said
             .lines()
             .find_map(|line| line.strip_prefix("replay: YOVANELUM_REPLAY="));
@@ -188,6 +251,12 @@ impl FailingOrder {
             push_string(json, &self.failure.0);
         }
         let _ = write!(json, ", \"switches\": {}", self.switches);
+        if let race @ Race::Exchange(_) = &self.race {
+            let told = race.in_words(self.failure.is_met());
+            let words: Vec<&str> = told.split_whitespace().skip(2).collect();
+            json.push_str(", \"race\": ");
+            push_string(json, &words.join(" "));
+        }
         for (key, path) in [("journal", &self.journal), ("schedule", &self.schedule)] {
             let _ = write!(json, ", \"{key}\": ");
             match path {
@@ -195,11 +264,16 @@ impl FailingOrder {
                 None => json.push_str("null"),
             }
         }
-        let (journal, schedule, order) = (self.by_journal, self.by_schedule, self.by_order);
-        let _ = write!(
-            json,
-            ", \"byJournal\": {journal}, \"bySchedule\": {schedule}, \"byOrder\": {order}}}"
-        );
+        let ways = [
+            ("Journal", self.by_journal.unwrap_or_default()),
+            ("Schedule", self.by_schedule),
+            ("Order", self.by_order),
+        ];
+        for (way, tries) in ways {
+            let _ = write!(json, ", \"by{way}\": {}", tries.failed);
+        }
+        let of = ways.map(|(_, tries)| tries.of.to_string()).join(", ");
+        let _ = write!(json, ", \"tries\": [{of}]}}");
     }
 }
 

@@ -5,9 +5,11 @@ use super::settings::RUNS;
 use crate::channels::atomic::AtomicU64;
 use crate::channels::lock::lock;
 use crate::schedule::explore::{
-    Asked, ORDER, Order, PROCESSOR, RunEnd, SCHEDULE, SESSION, Schedule, Sleeper, TARGET, Threads,
+    Asked, ORDER, Order, PAUSE, PROCESSOR, RunEnd, SCHEDULE, SESSION, Schedule, Sleeper, TARGET,
+    Threads,
 };
-use std::io::{self, Read};
+use std::fs::File;
+use std::io;
 use std::path::{Path, PathBuf};
 use std::process::{Child, Command, ExitStatus, Stdio};
 use std::sync::atomic::Ordering;
@@ -23,6 +25,12 @@ const HUNG_AFTER: Duration = Duration::from_millis(500);
 
 /// How often processes are looked after.
 const BETWEEN_LOOKS: Duration = Duration::from_millis(50);
+
+/// How long is waited at least and at most before it is looked again whether a process has ended,
+/// and as which part of the time that it has run.
+const SHORTEST_WAIT: Duration = Duration::from_micros(100);
+const LONGEST_WAIT: Duration = Duration::from_millis(10);
+const PART_OF_RUN: u32 = 16;
 
 /// The variable that names the journal which a test replays.
 const REPLAY: &str = "YOVANELUM_REPLAY";
@@ -40,6 +48,8 @@ pub(super) struct TestProgram {
 /// By what a run is made.
 pub(super) enum By<'a> {
     Order(&'a Order),
+    /// Each step takes so long at least.
+    Slowed(&'a Order, Duration),
     Journal(&'a Path),
 }
 
@@ -117,6 +127,7 @@ impl TestProgram {
         let target = self.folder.join(number.to_string());
         let path = self.folder.join(format!("{number}.schedule"));
         let answer = path.with_extension("answer");
+        let stderr = path.with_extension("stderr");
         let mut command = Command::new(&self.path);
         command
             .args(&self.arguments)
@@ -130,19 +141,31 @@ impl TestProgram {
             .envs((most < TIME_OF_RUN).then_some(("RUST_BACKTRACE", "0")))
             .stdin(Stdio::null())
             .stdout(Stdio::null())
-            .stderr(Stdio::piped());
-        match by {
-            By::Order(order) => command
+            // A process that outlives the test has it too, and would keep a pipe open.
+            .stderr(File::create(&stderr)?);
+        let order = match by {
+            By::Order(order) => Some(order),
+            By::Slowed(order, pause) => {
+                command.env(PAUSE, pause.as_micros().to_string());
+                Some(order)
+            }
+            By::Journal(journal) => {
+                command.env(REPLAY, journal);
+                None
+            }
+        };
+        if let Some(order) = order {
+            let processor = first_processor() + processor;
+            command
                 .env(ORDER, order.to_string())
                 .env(SCHEDULE, &path)
-                .env(PROCESSOR, (first_processor() + processor).to_string()),
-            By::Journal(journal) => command.env(REPLAY, journal),
-        };
-        let knows_hangs = matches!(by, By::Order(_));
-        let (status, said, was_ended) = self.waited_for(command, knows_hangs, most)?;
+                .env(PROCESSOR, processor.to_string());
+        }
+        let (status, was_ended) = self.waited_for(command, order.is_some(), most)?;
+        let said = String::from_utf8_lossy(&fs::read(&stderr)?).into_owned();
         let schedule = Schedule::of_file(&path).ok();
         let said_of = Answer::of_file(&answer);
-        for path in [path, answer] {
+        for path in [path, answer, stderr] {
             let _ = fs::remove_file(path);
         }
         let failure = failure(status, was_ended, &said, schedule.as_ref());
@@ -156,34 +179,43 @@ impl TestProgram {
         })
     }
 
-    /// Runs a command to its end. Returns its status, what it has said, and why it was ended, if it
-    /// was.
+    /// Runs a command until its process ends. Returns its status, and why it was ended, if it was.
     fn waited_for(
         &self,
         mut command: Command,
         knows_hangs: bool,
         most: Duration,
-    ) -> io::Result<(ExitStatus, String, Option<&'static str>)> {
-        let mut child = command.spawn()?;
-        let stderr = child.stderr.take();
+    ) -> io::Result<(ExitStatus, Option<&'static str>)> {
+        let child = command.spawn()?;
+        let began = Instant::now();
         let running = Arc::new(Running {
             child: Mutex::new(child),
-            until: Instant::now() + most,
+            until: began + most,
             knows_hangs,
             was_ended: Mutex::default(),
         });
         lock(&self.running).push(Arc::downgrade(&running));
-        let mut said = Vec::new();
-        if let Some(mut stderr) = stderr {
-            let _ = stderr.read_to_end(&mut said);
+        loop {
+            // Who ends it locks it too, so nobody waits here while it is locked.
+            if let Some(status) = lock(&running.child).try_wait()? {
+                return Ok((status, *lock(&running.was_ended)));
+            }
+            let wait = began.elapsed() / PART_OF_RUN;
+            thread::sleep(wait.clamp(SHORTEST_WAIT, LONGEST_WAIT));
         }
-        let status = lock(&running.child).wait()?;
-        let was_ended = *lock(&running.was_ended);
-        Ok((
-            status,
-            String::from_utf8_lossy(&said).into_owned(),
-            was_ended,
-        ))
+    }
+}
+
+/// Says in one line how a run has failed: where, and with what text.
+pub(super) fn first_words(ran: &Ran) -> String {
+    let Some(FailureMark(mark)) = &ran.failure else {
+        return String::new();
+    };
+    let mut lines = ran.said.lines();
+    let is_panic = |line: &str| line.ends_with(&format!(" panicked at {mark}"));
+    match lines.by_ref().find(|line| is_panic(line)).and(lines.next()) {
+        Some(text) => format!("{mark} {text}"),
+        None => mark.clone(),
     }
 }
 

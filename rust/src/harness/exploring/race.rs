@@ -1,12 +1,118 @@
-//! The switches of a schedule, in words.
+//! The race of a failing order in words: the two steps that make the difference, and the switches.
 
+use super::exchange::Exchange;
 use crate::run::operation::Operation;
-use crate::schedule::explore::{Schedule, Step, Turn, What};
+use crate::schedule::explore::{RunEnd, Schedule, Step, Turn, What};
 use std::fmt::Write as _;
 
 /// How many switches are told, and how many calls within one.
 const SWITCHES_TOLD: usize = 3;
 const CALLS_TOLD: usize = 3;
+
+/// What is known of how a failing order differs from one that passes.
+pub(super) enum Race {
+    Exchange(Exchange),
+    /// This number of other orders was tried, and none passes.
+    NonePasses(usize),
+    Unknown,
+}
+
+impl Race {
+    /// Says it in lines of a report, where a run fails, or where it meets a condition.
+    pub(super) fn in_words(&self, is_met: bool) -> String {
+        let (fails, passes) = if is_met {
+            ("it is met", "isn't")
+        } else {
+            ("it fails", "passes")
+        };
+        match self {
+            Race::Exchange(found) => {
+                let schedule = &found.failing;
+                let mut file = String::new();
+                let first = step_in_words(schedule, found.first, &mut file);
+                let between = between_in_words(found, &mut file);
+                let then = step_in_words(schedule, found.then, &mut file);
+                format!(
+                    "  the race: {fails} where {first}{between},\n            \
+                    before {then}, and {passes} the other way round\n"
+                )
+            }
+            Race::NonePasses(count) => format!("  none of {count} other orders passes\n"),
+            Race::Unknown => String::new(),
+        }
+    }
+}
+
+/// Says what is made between the two steps by others than the first one.
+fn between_in_words(found: &Exchange, file: &mut String) -> String {
+    let schedule = &found.failing;
+    let first = &schedule.steps[found.first].who;
+    let between = (found.first + 1..found.then).filter(|at| schedule.steps[*at].who != *first);
+    let between: Vec<usize> = between.collect();
+    let told = between.iter().take(CALLS_TOLD);
+    let mut said: String = told
+        .map(|at| format!(",\n            and {}", step_in_words(schedule, *at, file)))
+        .collect();
+    push_more(&mut said, between.len());
+    said
+}
+
+/// Adds how many there are beside those that are told.
+fn push_more(said: &mut String, count: usize) {
+    if let Some(more) = count.checked_sub(CALLS_TOLD).filter(|more| *more > 0) {
+        let _ = write!(said, " and {more} more");
+    }
+}
+
+/// Says what the step with this number does: a call, or the way of a task from where it waited to
+/// where it stands or waits next.
+fn step_in_words(schedule: &Schedule, at: usize, file: &mut String) -> String {
+    let (before, rest) = schedule.steps.split_at(at);
+    let step = &rest[0];
+    let is_own = |other: &&Step| other.who == step.who;
+    let mut said = format!("`{}`", step.who);
+    match &step.what {
+        What::Time { ready } => return format!("time passed while {ready} stood ready"),
+        What::Call { .. } | What::Point { .. } => push(&mut said, " made ", step, schedule, file),
+        What::Poll => {
+            said.push_str(" went on");
+            if before.iter().any(|other| is_own(&other)) {
+                push_waited(&mut said, " from ", step, file);
+            } else {
+                said.push_str(" from its start");
+            }
+            match rest[1..].iter().find(is_own) {
+                Some(next) if next.what == What::Poll => {
+                    push_waited(&mut said, " to ", next, file);
+                }
+                Some(next) => push(&mut said, " to ", next, schedule, file),
+                None => push_last(&mut said, &step.who, schedule, file),
+            }
+        }
+    }
+    said
+}
+
+/// Adds where a task waits at the end of the run, or that it has ended.
+fn push_last(said: &mut String, who: &str, schedule: &Schedule, file: &mut String) {
+    let mut waiting = schedule.waiting.iter();
+    match waiting.find(|waiting| *waiting.who == *who) {
+        Some(waiting) => {
+            let _ = write!(said, " to {}", waiting.what);
+            push_place(said, waiting.at.as_ref(), file);
+        }
+        None if schedule.end == RunEnd::Failed => said.push_str(" to its end"),
+        None => (),
+    }
+}
+
+/// Adds what the task waited for that is polled, if that is known.
+fn push_waited(said: &mut String, start: &str, step: &Step, file: &mut String) {
+    if let Some(waited_for) = &step.waited_for {
+        let _ = write!(said, "{start}{waited_for}");
+        push_place(said, step.at.as_ref(), file);
+    }
+}
 
 /// Returns the lines that say what the switches of a failing order are: which caller was held,
 /// before which call, and what others did meanwhile.
@@ -56,7 +162,7 @@ fn switch(schedule: &Schedule, at: usize) -> String {
     let mut said = format!("`{}` was held", held.who);
     let is_held = |step: &&Step| step.who == held.who;
     let next = after.iter().position(|step| step.who == held.who);
-    let is_call = |step: &&Step| matches!(step.what, What::Call { .. });
+    let is_call = |step: &&Step| is_call(step);
     match after.iter().filter(is_held).find(is_call) {
         Some(call) => push(&mut said, " before ", call, schedule, &mut file),
         None => said.push_str(" until the end"),
@@ -70,10 +176,7 @@ fn switch(schedule: &Schedule, at: usize) -> String {
 
 /// Says what others did.
 fn meanwhile_in_words(steps: &[Step], schedule: &Schedule, file: &mut String) -> String {
-    let calls: Vec<&Step> = steps
-        .iter()
-        .filter(|step| matches!(step.what, What::Call { .. }))
-        .collect();
+    let calls: Vec<&Step> = steps.iter().filter(|step| is_call(step)).collect();
     let mut said = String::new();
     let mut who = None;
     for call in calls.iter().take(CALLS_TOLD) {
@@ -85,27 +188,40 @@ fn meanwhile_in_words(steps: &[Step], schedule: &Schedule, file: &mut String) ->
         who = Some(&call.who);
         push(&mut said, &start, call, schedule, file);
     }
-    if let Some(more) = calls.len().checked_sub(CALLS_TOLD).filter(|more| *more > 0) {
-        let _ = write!(said, " and {more} more");
-    }
+    push_more(&mut said, calls.len());
     match (calls.first(), steps.first()) {
         (None, Some(step)) => format!(",\n              while `{}` went on", step.who),
         _ => said,
     }
 }
 
+/// Whether a step is a call, of a recorded channel or of tokio's own.
+fn is_call(step: &Step) -> bool {
+    matches!(step.what, What::Call { .. } | What::Point { .. })
+}
+
 /// Adds a call with its place, which has its file only if that isn't this one.
 fn push(said: &mut String, start: &str, call: &Step, schedule: &Schedule, file: &mut String) {
-    let What::Call { word, channel, .. } = &call.what else {
-        return;
-    };
-    let mut names = schedule.channels.iter();
-    let name = names.find(|(number, _)| number == channel);
-    let _ = match name {
-        Some((_, name)) => write!(said, "{start}{name}.{}", method(word)),
-        None => write!(said, "{start}channel {channel}.{}", method(word)),
-    };
-    if let Some((of, line)) = &call.at {
+    match &call.what {
+        What::Call { word, channel, .. } => {
+            let mut names = schedule.channels.iter();
+            let name = names.find(|(number, _)| number == channel);
+            let _ = match name {
+                Some((_, name)) => write!(said, "{start}{name}.{}", method(word)),
+                None => write!(said, "{start}channel {channel}.{}", method(word)),
+            };
+        }
+        What::Point { called } => {
+            let _ = write!(said, "{start}{called}");
+        }
+        What::Poll | What::Time { .. } => return,
+    }
+    push_place(said, call.at.as_ref(), file);
+}
+
+/// Adds a place in the source, with its file only if that isn't this one.
+fn push_place(said: &mut String, at: Option<&(String, u32)>, file: &mut String) {
+    if let Some((of, line)) = at {
         let _ = if of == file {
             write!(said, " (:{line})")
         } else {
@@ -138,8 +254,86 @@ mod tests {
                 handle: 0,
             }),
             at: word.map(|(_, line)| ("tests/shop.rs".to_string(), line)),
+            waited_for: None,
             who: who.into(),
         }
+    }
+
+    fn race(steps: Vec<Step>, then: usize) -> String {
+        let mut failing = Schedule::new(String::new());
+        failing.channels = vec![(0, "config".to_string())];
+        failing.steps = steps;
+        let first = 1;
+        let found = Exchange {
+            failing,
+            first,
+            then,
+        };
+        Race::Exchange(found).in_words(false)
+    }
+
+    #[test]
+    fn a_race_of_calls_names_both_and_what_lies_between() {
+        let call = |who, word, line| step(who, Some((word, line)), Turn::Free);
+        let (borrow, send) = (call("reader", "borrow", 14), call("admin", "send", 21));
+        let (looks, marks) = (
+            call("other", "borrow", 30),
+            call("reader", "mark-unchanged", 16),
+        );
+        assert_eq!(
+            race(vec![borrow.clone(), send.clone(), marks.clone()], 2),
+            "  the race: it fails where `admin` made config.send (tests/shop.rs:21),\n            \
+            before `reader` made config.mark_unchanged (:16), and passes the other way round\n"
+        );
+        let between = race(vec![borrow, send, looks, marks], 3);
+        assert!(
+            between.contains(
+                ",\n            and `other` made config.borrow (:30),\n            before `reader` "
+            ),
+            "{between}"
+        );
+    }
+
+    #[test]
+    fn a_race_of_polls_says_from_where_to_where_a_task_goes() {
+        let waiting = |who, waited_for: &str, line| {
+            let mut poll = step(who, None, Turn::Free);
+            poll.waited_for = Some(waited_for.to_string());
+            poll.at = Some(("tests/shop.rs".to_string(), line));
+            poll
+        };
+        let steps = vec![
+            step("ann", None, Turn::Free),
+            waiting("ann", "yield_now", 12),
+            step("bob", None, Turn::Free),
+            waiting("ann", "Mutex::lock", 13),
+        ];
+        assert_eq!(
+            race(steps, 2),
+            "  the race: it fails where `ann` went on from yield_now (tests/shop.rs:12) to Mutex::lock (:13),\n            \
+            before `bob` went on from its start, and passes the other way round\n"
+        );
+    }
+
+    #[test]
+    fn a_race_of_tokio_s_own_calls_names_both() {
+        let point = |who, called: &str, line| {
+            let mut point = step(who, Some(("send", line)), Turn::Free);
+            point.what = What::Point {
+                called: called.to_string(),
+            };
+            point
+        };
+        let steps = vec![
+            point("ann", "Semaphore::available_permits", 12),
+            point("bob", "Semaphore::available_permits", 12),
+            point("ann", "Semaphore::try_acquire", 13),
+        ];
+        assert_eq!(
+            race(steps, 2),
+            "  the race: it fails where `bob` made Semaphore::available_permits (tests/shop.rs:12),\n            \
+            before `ann` made Semaphore::try_acquire (:13), and passes the other way round\n"
+        );
     }
 
     #[test]

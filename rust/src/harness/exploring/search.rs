@@ -11,6 +11,9 @@ const ORDERS_KEPT: usize = 100_000;
 /// How many switches the search has at most.
 const SWITCHES: usize = 1;
 
+/// How many runs show whether a test waits for timers that was kept busy.
+const LOOKS_FOR_TIMERS: u64 = 8;
+
 /// One order in this number is guided, where the test is explored for a condition.
 const BETWEEN_GUIDED: u64 = 4;
 
@@ -37,6 +40,8 @@ pub(super) struct Search {
     first: Option<Order>,
     has_begun: bool,
     pub(super) has_timers: bool,
+    /// How many runs are yet to show if the test waits for timers.
+    looks_for_timers: u64,
     /// How many choices a run has.
     choices: u32,
 }
@@ -70,6 +75,7 @@ impl Search {
             first,
             has_begun: false,
             has_timers: false,
+            looks_for_timers: 0,
             choices: 20,
         }
     }
@@ -153,13 +159,14 @@ impl Search {
         } else {
             (schedule.choices() as u32).max(1)
         };
+        if !self.has_begun {
+            let is_unsure = schedule.was_busy && !schedule.has_timers;
+            self.looks_for_timers = if is_unsure { LOOKS_FOR_TIMERS } else { 0 };
+        }
         self.has_begun = true;
         let finds_timers = schedule.has_timers && !self.has_timers;
         if finds_timers {
-            // Time is a choice from here on, so the search begins again.
-            self.has_timers = true;
-            self.passed = [0; SWITCHES + 1];
-            self.waiting = [VecDeque::from([Vec::new()]), VecDeque::new()];
+            self.offer_time();
         }
         let Some(switches) = task.switches else {
             return;
@@ -171,6 +178,40 @@ impl Search {
         self.passed[switches] += 1;
         if let OrderKind::Steps(steps) = &task.order.kind {
             self.branch(steps, switches, schedule);
+        }
+    }
+
+    /// Returns the order of a run that shows whether the test waits for timers, if that is to be
+    /// seen. It isn't one of those that are counted.
+    pub(super) fn order_to_see_timers(&mut self) -> Option<Order> {
+        if self.has_timers || self.left == 0 {
+            return None;
+        }
+        self.looks_for_timers = self.looks_for_timers.checked_sub(1)?;
+        let kind = match LOOKS_FOR_TIMERS - 1 - self.looks_for_timers {
+            0 => OrderKind::Steps(Vec::new()),
+            seed => OrderKind::Random(seed),
+        };
+        Some(Order {
+            kind,
+            has_timers: true,
+        })
+    }
+
+    /// Makes time a choice from here on, so that the search begins again.
+    pub(super) fn offer_time(&mut self) {
+        if self.has_timers {
+            return;
+        }
+        self.has_timers = true;
+        self.passed = [0; SWITCHES + 1];
+        self.waiting = [VecDeque::from([Vec::new()]), VecDeque::new()];
+    }
+
+    /// Notes that a run says nothing of its order.
+    pub(super) fn said_nothing(&mut self, task: &Task) {
+        if let Some(switches) = task.switches {
+            self.in_flight[switches] -= 1;
         }
     }
 
@@ -228,6 +269,7 @@ mod tests {
                 turn: *turn,
                 what: What::Poll,
                 at: None,
+                waited_for: None,
                 who: "a".into(),
             })
             .collect();
@@ -292,6 +334,23 @@ mod tests {
             ["s", "ts", "ts0.1", "tr0", "tp2.1.1", "tp3.2.1"]
         );
         assert_eq!(search.passed, [1, 1]);
+    }
+
+    #[test]
+    fn where_a_runtime_was_kept_busy_runs_show_whether_it_has_timers() {
+        let mut schedule = schedule(&[(2, Turn::Same)]);
+        schedule.was_busy = true;
+        let mut search = Search::new(6, &From::Start, false);
+        assert_eq!(search.order_to_see_timers(), None);
+        let first = search.next().unwrap();
+        search.passed(&first, &schedule);
+        let mut look = || search.order_to_see_timers().map(|order| order.to_string());
+        let looks: Vec<_> = (0..3).filter_map(|_| look()).collect();
+        assert_eq!(looks, ["ts", "tr1", "tr2"]);
+        search.offer_time();
+        assert_eq!(search.order_to_see_timers(), None);
+        let rest = names(&mut search, &schedule);
+        assert_eq!(rest, ["ts", "ts0.1", "tr0", "tp2.1.1", "tp3.2.1"]);
     }
 
     #[test]

@@ -1,31 +1,24 @@
 //! The test's own process, which runs its program again and again.
 
+mod by_time;
+
 use super::answer::{Answer, unknown_in_words};
 use super::counts::{AskedCondition, Counts};
-use super::failing_order::FailingOrder;
-use super::process::{By, Ran, TIME_OF_RUN, TestProgram};
+use super::passed::PassedRuns;
+use super::process::{By, FailureMark, Ran, TIME_OF_RUN, TestProgram, first_words};
 use super::progress::Progress;
 use super::search::{Search, Task};
-use super::settings::{From, RUNS, Settings};
-use super::shorten::{Failing, Shortening};
+use super::settings::{RUNS, Settings};
 use crate::channels::lock::lock;
 use crate::channels::standard_error::say;
 use crate::harness::files;
 use crate::harness::program::Program;
-use crate::schedule::explore::Schedule;
 use std::collections::{BTreeSet, HashSet};
-use std::path::{Path, PathBuf};
 use std::process::Command;
-use std::sync::Mutex;
 use std::sync::atomic::{AtomicBool, Ordering};
+use std::sync::{Mutex, PoisonError, RwLock};
 use std::time::{Duration, Instant};
 use std::{env, fs, io, panic, process, thread};
-
-/// How often the journal and the schedule are tried before they are reported.
-const TRIES: usize = 10;
-
-/// How long each of these runs takes at most.
-const TIME_OF_TRY: Duration = Duration::from_secs(10);
 
 /// How many runs tell that nothing is recorded.
 const TELLING_RUNS: u64 = 5;
@@ -104,18 +97,48 @@ fn listed(name: &str) -> Option<String> {
         .map(str::to_string)
 }
 
-struct Session {
-    name: String,
-    settings: Settings,
-    program: TestProgram,
-    search: Mutex<Search>,
-    counts: Mutex<Counts>,
-    found: Mutex<Option<(Task, Ran)>>,
+pub(super) struct Session {
+    pub(super) name: String,
+    pub(super) settings: Settings,
+    pub(super) program: TestProgram,
+    pub(super) search: Mutex<Search>,
+    pub(super) counts: Mutex<Counts>,
+    found: Mutex<Option<FoundRun>>,
+    /// The first run that has failed by time, and not by its order.
+    failed_by_time: Mutex<Option<FoundRun>>,
     /// What there is in the runs of what the condition names.
     there: Mutex<SeenNames>,
-    is_over: AtomicBool,
-    began: Instant,
+    pub(super) is_over: AtomicBool,
+    /// What a run holds: for itself alone where nothing may run beside it.
+    pub(super) room: RwLock<()>,
+    pub(super) began: Instant,
     progress: Progress,
+    /// What runs were that have passed.
+    pub(super) passed: Mutex<PassedRuns>,
+    /// Whether the first run is made, which has none beside it.
+    is_first: AtomicBool,
+}
+
+/// The first run that fails.
+pub(super) struct FoundRun {
+    pub(super) task: Task,
+    pub(super) ran: Ran,
+    /// How many runs there were with it, and how long it took to find it.
+    pub(super) runs: u64,
+    pub(super) took: Duration,
+}
+
+impl FoundRun {
+    fn in_words(&self) -> String {
+        let (run, seconds) = (self.runs, self.took.as_secs_f64());
+        let is_met = self.ran.failure.as_ref().is_some_and(FailureMark::is_met);
+        let told = if is_met {
+            format!("meets the condition ({seconds:.1} s)")
+        } else {
+            format!("failed ({seconds:.1} s): {}", first_words(&self.ran))
+        };
+        format!("run {run} {told}; its order is tried again")
+    }
 }
 
 /// Whether there was anything of the condition's name in any run, and what else there was.
@@ -141,9 +164,13 @@ impl Session {
             there: Mutex::default(),
             counts: Mutex::default(),
             found: Mutex::default(),
+            failed_by_time: Mutex::default(),
             is_over: AtomicBool::new(false),
+            room: RwLock::default(),
             began: Instant::now(),
             progress: Progress::new(name, settings.runs),
+            passed: Mutex::default(),
+            is_first: AtomicBool::new(true),
             settings,
         })
     }
@@ -152,20 +179,24 @@ impl Session {
     fn run(&self) -> bool {
         // The first run says what the others need to know.
         self.step(0);
-        let jobs = self.settings.jobs.min(self.settings.runs.max(1) as usize);
+        self.is_first.store(false, Ordering::Relaxed);
         thread::scope(|scope| {
-            for job in 0..jobs {
+            for job in 0..self.jobs() {
                 scope.spawn(move || while self.step(job) {});
             }
         });
         self.progress.clear();
-        let found = lock(&self.found).take();
+        let mut found = lock(&self.found).take();
+        if lock(&self.counts).runs == 0 {
+            // None has passed, so it isn't said that all have.
+            found = found.or_else(|| lock(&self.failed_by_time).take());
+        }
         let has_nothing = lock(&self.counts).have_nothing();
-        let found = found.map(|(task, ran)| {
+        let found = found.map(|found| {
             if has_nothing {
-                self.report_nothing(&task, ran)
+                self.report_nothing(found)
             } else {
-                self.report(task, ran)
+                self.report(found)
             }
         });
         let (counts, search) = (lock(&self.counts), lock(&self.search));
@@ -185,8 +216,18 @@ impl Session {
         found.is_some() || has_nothing || asked.is_some_and(|asked| !asked.is_there)
     }
 
+    /// Returns how many processes run beside each other at most.
+    pub(super) fn jobs(&self) -> usize {
+        self.settings.jobs.min(self.settings.runs.max(1) as usize)
+    }
+
+    /// Whether no run has another one beside it.
+    pub(super) fn is_one_at_a_time(&self) -> bool {
+        self.jobs() == 1 || self.is_first.load(Ordering::Relaxed) || lock(&self.counts).has_clash()
+    }
+
     /// Returns what is looked for, and says so if there was nothing of its name.
-    fn asked(&self) -> Option<AskedCondition> {
+    pub(super) fn asked(&self) -> Option<AskedCondition> {
         let condition = self.settings.condition.as_ref()?;
         let there = lock(&self.there);
         // Without an answer of any run, nothing is known.
@@ -229,13 +270,17 @@ impl Session {
         if self.is_over.load(Ordering::Relaxed) || is_late() {
             return false;
         }
+        self.see_timers(job);
         let Some(task) = lock(&self.search).next() else {
             return false;
         };
-        let by = By::Order(&task.order);
-        let ran = self.program.run(&by, job, TIME_OF_RUN);
-        let ran = ran.unwrap_or_else(|error| panic!("yovanelum: a run can't be started: {error}"));
+        let Some((ran, is_by_time)) = self.run_of(&task, job) else {
+            return false;
+        };
         self.note(&ran);
+        if is_by_time {
+            return self.goes_on_after(task, ran);
+        }
         let Some(schedule) = ran.schedule.as_ref() else {
             return self.end_without_schedule(task, ran);
         };
@@ -252,12 +297,63 @@ impl Session {
             return false;
         }
         lock(&self.search).passed(&task, schedule);
+        lock(&self.passed).add(task.order, schedule);
         true
     }
 
+    /// Makes the run of a task, and returns whether it has failed by time. What fails beside others
+    /// counts if it fails alone too. Returns `None` if the session is over.
+    fn run_of(&self, task: &Task, job: usize) -> Option<(Ran, bool)> {
+        let (ran, was_alone) = self.run_by(&By::Order(&task.order), job);
+        if ran.failure.is_none() {
+            return Some((ran, false));
+        }
+        if self.is_by_time(&ran, job) {
+            return Some((ran, true));
+        }
+        let ran = if was_alone {
+            ran
+        } else {
+            self.run_alone(task, ran, job)?
+        };
+        Some((ran, false))
+    }
+
+    /// Runs the test once. Returns whether nothing ran beside it, too.
+    fn run_by(&self, by: &By<'_>, job: usize) -> (Ran, bool) {
+        let run = || {
+            let ran = self.program.run(by, job, TIME_OF_RUN);
+            ran.unwrap_or_else(|error| panic!("yovanelum: a run can't be started: {error}"))
+        };
+        let beside = self.room.read().unwrap_or_else(PoisonError::into_inner);
+        if !self.is_one_at_a_time() {
+            return (run(), false);
+        }
+        drop(beside);
+        let _alone = self.room.write().unwrap_or_else(PoisonError::into_inner);
+        (run(), true)
+    }
+
+    /// Ends with a run that fails. It is told at once if its order is to be tried again.
     fn end_with(&self, task: Task, ran: Ran) {
         self.is_over.store(true, Ordering::Relaxed);
-        lock(&self.found).get_or_insert((task, ran));
+        let counts = lock(&self.counts);
+        let (runs, has_nothing) = (counts.made().max(1), counts.have_nothing());
+        drop(counts);
+        let mut found = lock(&self.found);
+        if found.is_none() {
+            self.progress.clear();
+            let first = FoundRun {
+                task,
+                ran,
+                runs,
+                took: self.began.elapsed(),
+            };
+            if !has_nothing && first.ran.schedule.is_some() {
+                say(&format!("{}: {}", self.name, first.in_words()));
+            }
+            *found = Some(first);
+        }
     }
 
     /// Ends with a run that has written no schedule: its process was ended, or the test makes no
@@ -273,157 +369,4 @@ impl Session {
         self.end_with(task, ran);
         false
     }
-
-    /// Reports a failing run where none has recorded anything, so that nothing brings it back.
-    fn report_nothing(&self, task: &Task, ran: Ran) -> FailingOrder {
-        let failure = ran.failure.unwrap_or_else(|| unreachable!("it has failed"));
-        let nothing = lock(&self.counts).nothing_in_words(&self.name, Some(&failure));
-        let said = self.without_folder(&ran.said, &ran.target);
-        say(&format!("{nothing}\n{}", said.trim_end()));
-        FailingOrder::without_schedule(&task.order, &failure)
-    }
-
-    /// Looks for the fewest switches, tries what brings the failure back, puts the files where they
-    /// are looked for, and reports all.
-    fn report(&self, task: Task, mut ran: Ran) -> FailingOrder {
-        let (order, took) = (task.order.clone(), self.began.elapsed());
-        let failure = ran
-            .failure
-            .clone()
-            .unwrap_or_else(|| unreachable!("it has failed"));
-        let Some(schedule) = ran.schedule.take() else {
-            let found = FailingOrder::without_schedule(&order, &failure);
-            say(&format!(
-                "{}: {} failed: {}\n{}",
-                self.name, order, failure.0, ran.said
-            ));
-            return found;
-        };
-        let mut failing = Failing {
-            order,
-            schedule,
-            ran,
-        };
-        if !matches!(self.settings.from, From::Order(_)) {
-            let shortening = Shortening::new(&self.program, 0, failure.clone());
-            failing = shortening.shorten(failing);
-        }
-        let mut found = FailingOrder::new(&failing, task, failure);
-        let journal = journal_in(&failing.ran.target);
-        if let Some(journal) = &journal {
-            found.by_journal = self.tries(&By::Journal(journal), &found);
-        }
-        let path = self.program.folder.join("found");
-        if fs::write(&path, failing.schedule.text()).is_ok() {
-            let order = found.following(&path);
-            found.by_schedule = self.tries(&By::Order(&order), &found);
-        }
-        found.by_order = self.tries(&By::Order(found.order_again()), &found);
-        if let Some(journal) = &journal {
-            self.put(journal, &failing, &mut found);
-        }
-        let (counts, search) = (lock(&self.counts), lock(&self.search));
-        let asked = self.asked();
-        let lines = found.in_words(&self.name, asked.as_ref(), &counts, &search, &failing, took);
-        let mut lines = self.without_folder(&lines, &failing.ran.target);
-        if let (Some(named), Some(journal)) = (journal, &found.journal) {
-            lines = with_files_of(journal, &named, lines);
-        }
-        say(&lines);
-        found
-    }
-
-    /// Returns how often a run fails in the same way.
-    fn tries(&self, by: &By<'_>, found: &FailingOrder) -> usize {
-        let again = |_: &usize| {
-            let ran = self.program.run(by, 0, TIME_OF_TRY);
-            ran.is_ok_and(|ran| ran.failure.as_ref() == Some(&found.failure))
-        };
-        (0..TRIES).filter(again).count()
-    }
-
-    /// Puts the files of a run where those of its test are. The schedule is among them where it
-    /// brings the failure back more often than the journal.
-    fn put(&self, journal: &Path, failing: &Failing, found: &mut FailingOrder) {
-        let Ok(below) = journal.strip_prefix(&failing.ran.target) else {
-            return;
-        };
-        let path = Program::this().target_folder.join(below);
-        let is_better = found.by_schedule > found.by_journal;
-        match replace(&path, journal, is_better.then_some(&failing.schedule)) {
-            Ok(path) => {
-                found.schedule = is_better.then(|| path.with_extension("schedule"));
-                found.journal = Some(path);
-            }
-            Err(error) => say(&format!("{} isn't written: {error}", path.display())),
-        }
-    }
-
-    /// Returns lines in which the files of a run are those that were put in their place.
-    fn without_folder(&self, lines: &str, target: &Path) -> String {
-        let folder = self.program.folder.file_name();
-        let part = folder.and_then(|folder| Some(Path::new(folder).join(target.file_name()?)));
-        match part {
-            Some(part) => lines.replace(&format!("{}/", part.display()), ""),
-            None => lines.to_string(),
-        }
-    }
-}
-
-/// Replaces the files of a test, of which this is the journal, by those of a run with another one.
-/// Returns the journal that was written.
-fn replace(path: &Path, of_run: &Path, schedule: Option<&Schedule>) -> io::Result<PathBuf> {
-    let beside = |extension| match fs::read(of_run.with_extension(extension)) {
-        Err(error) if error.kind() == io::ErrorKind::NotFound => Ok(None),
-        read => read.map(Some),
-    };
-    let journal = fs::read_to_string(of_run)?;
-    let (names, page) = (beside("names")?, beside("html")?);
-    let schedule = schedule.map(|schedule| schedule.text_beside(&journal));
-    files::replace(
-        path,
-        0,
-        &[
-            ("journal", Some(journal.as_bytes())),
-            ("names", names.as_deref()),
-            ("html", page.as_deref()),
-            ("schedule", schedule.as_deref().map(str::as_bytes)),
-        ],
-    )
-}
-
-/// Returns lines in which the files of a test are those of this journal, which may be another one
-/// than they say.
-fn with_files_of(journal: &Path, named: &Path, lines: String) -> String {
-    let stem = |path: &Path| Some(path.file_stem()?.to_string_lossy().into_owned());
-    match (stem(named), stem(journal)) {
-        (Some(before), Some(own)) if before != own => {
-            ["journal", "html"].iter().fold(lines, |lines, extension| {
-                lines.replace(
-                    &format!("/{before}.{extension}"),
-                    &format!("/{own}.{extension}"),
-                )
-            })
-        }
-        _ => lines,
-    }
-}
-
-/// Returns the journal that a run has written below this folder.
-fn journal_in(folder: &Path) -> Option<PathBuf> {
-    let mut folders = vec![folder.to_path_buf()];
-    while let Some(folder) = folders.pop() {
-        for entry in fs::read_dir(folder).ok()?.flatten() {
-            let path = entry.path();
-            if path.is_dir() {
-                folders.push(path);
-            } else if path
-                .extension()
-                .is_some_and(|extension| extension == "journal")
-            {
-                return Some(path);
-            }
-        }
-    }
-    None
 }

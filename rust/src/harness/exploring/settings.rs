@@ -1,7 +1,8 @@
 //! The variables that say how a test is explored.
 
+use crate::harness::automatic::is_under_command;
 use crate::run::debugger::named::NamedCondition;
-use crate::schedule::explore::{Order, condition, is_time_offered};
+use crate::schedule::explore::{Order, POINTS, condition, has_points, is_time_offered};
 use std::env;
 use std::path::PathBuf;
 use std::thread;
@@ -48,6 +49,10 @@ impl Settings {
     pub(super) fn of_variables() -> Option<Settings> {
         let runs = number(RUNS)?;
         is_time_offered();
+        assert!(
+            !has_points() || is_under_command(),
+            "yovanelum: {POINTS} needs the command `cargo yovanelum explore`"
+        );
         let processors = thread::available_parallelism().map_or(1, usize::from);
         Some(Settings {
             runs,

@@ -144,6 +144,7 @@ mod tests {
                     turn,
                     what: What::Poll,
                     at: None,
+                    waited_for: None,
                     who: name.to_string().into(),
                 }
             })

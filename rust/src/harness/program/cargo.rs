@@ -1,5 +1,6 @@
 //! How cargo was told to build this program: what a later command has to say for the same build.
 
+use super::options::{self, Speaker};
 use super::{Program, TargetKind};
 use crate::harness::stand_in;
 use std::path::Path;
@@ -12,56 +13,6 @@ const VARIABLES: [&str; 4] = [
     "CARGO_ENCODED_RUSTFLAGS",
     "CARGO_BUILD_RUSTFLAGS",
     "RUSTDOCFLAGS",
-];
-
-/// Options that are said again, each with the value behind it.
-const WITH_VALUE: [&str; 10] = [
-    "--config",
-    "--features",
-    "-F",
-    "--profile",
-    "--target",
-    "--target-dir",
-    "--manifest-path",
-    "--lockfile-path",
-    "-Z",
-    "-C",
-];
-
-/// Options that are said again, and have no value.
-const ALONE: [&str; 8] = [
-    "--release",
-    "-r",
-    "--all-features",
-    "--no-default-features",
-    "--locked",
-    "--offline",
-    "--frozen",
-    "--ignore-rust-version",
-];
-
-/// Options with a value that are not said again, since they choose what is tested or say how.
-const LEFT_OUT: [&str; 20] = [
-    "-p",
-    "--package",
-    "--exclude",
-    "--test",
-    "--bin",
-    "--example",
-    "--bench",
-    "-j",
-    "--jobs",
-    "--color",
-    "--message-format",
-    "-E",
-    "--filterset",
-    "-P",
-    "--retries",
-    "--test-threads",
-    "--partition",
-    "--run-ignored",
-    "--failure-output",
-    "--success-output",
 ];
 
 /// The folder of the package that stands for tokio, if it is part of this build.
@@ -132,11 +83,20 @@ impl CargoRun {
         if program != "cargo" && !is_nextest {
             return None;
         }
-        let mut run = CargoRun::default();
-        let mut words = words[1..].iter().take_while(|word| *word != "--");
-        while let Some(word) = words.next() {
-            run.read_word(word, is_nextest, || words.next().cloned());
-        }
+        let speaker = if is_nextest {
+            Speaker::Nextest
+        } else {
+            Speaker::Cargo
+        };
+        let (verb, options) = options::read(&words[1..], speaker);
+        let mut run = CargoRun {
+            verb,
+            options: options
+                .into_iter()
+                .flat_map(|option| option.words)
+                .collect(),
+            ..CargoRun::default()
+        };
         if is_nextest || matches!(run.verb.as_str(), "t" | "nextest") {
             run.verb = "test".to_string();
         }
@@ -153,29 +113,6 @@ impl CargoRun {
             _ => Some(run),
         }
     }
-
-    fn read_word(&mut self, word: &str, is_nextest: bool, next: impl FnOnce() -> Option<String>) {
-        let (name, value) = match word.split_once('=') {
-            Some((name, value)) if name.starts_with('-') => (name, Some(value.to_string())),
-            _ => (word, None),
-        };
-        // Of nextest, these two are about its own settings and about cargo's.
-        let name = match name {
-            "--profile" if is_nextest => "-P",
-            "--cargo-profile" => "--profile",
-            name => name,
-        };
-        if WITH_VALUE.contains(&name) {
-            self.options.push(name.to_string());
-            self.options.extend(value.or_else(next));
-        } else if LEFT_OUT.contains(&name) {
-            drop(value.or_else(next));
-        } else if ALONE.contains(&name) || is_joined(word) {
-            self.options.push(word.to_string());
-        } else if !word.starts_with(['-', '+']) && self.verb.is_empty() {
-            self.verb = word.to_string();
-        }
-    }
 }
 
 /// Returns a variable with its value as somebody would write it. In one of them, a character that
@@ -186,13 +123,6 @@ fn for_a_shell(name: &str, value: String) -> (String, String) {
     } else {
         (name.to_string(), value)
     }
-}
-
-/// Whether this is a short option that is said again, with its value in the same word.
-fn is_joined(word: &str) -> bool {
-    ["-F", "-Z", "-C"]
-        .iter()
-        .any(|short| word.starts_with(short))
 }
 
 /// Returns the options that are known without cargo's command line: the profile by the folder of

@@ -2,8 +2,10 @@
 //!
 //! What the standard library prints is read, since nothing else of a stack is offered.
 
+use super::functions::ReadSources;
 use crate::harness::stacks::without_hash;
 use std::backtrace::Backtrace;
+use std::path::Path;
 
 /// The functions of libraries that poll another future, and aren't what a task waits for.
 const PASS_ON: [&str; 12] = [
@@ -47,6 +49,9 @@ const OF_MODULES: [&str; 4] = ["Receiver", "Sender", "Acquire", "Recv"];
 /// What the function is called that polls a task by its own waker.
 const POLL: &str = "whereabouts::waker::poll";
 
+/// Its source and its name, where it has no path.
+const BARE_POLL: (&str, &str) = ("whereabouts/waker.rs", "poll");
+
 /// A stack whose functions are named.
 pub(super) struct PrintedStack {
     pub(super) frames: Vec<StackFrame>,
@@ -60,8 +65,14 @@ pub(super) struct StackFrame {
 }
 
 impl PrintedStack {
-    pub(super) fn of(stack: &Backtrace) -> PrintedStack {
-        PrintedStack::of_text(&stack.to_string())
+    /// Names the functions of a stack. Those without a path are looked up in their sources, which
+    /// are relative to the folder `here`.
+    pub(super) fn of(stack: &Backtrace, sources: &mut ReadSources, here: &Path) -> PrintedStack {
+        let mut stack = PrintedStack::of_text(&stack.to_string());
+        for frame in &mut stack.frames {
+            frame.complete(sources, here);
+        }
+        stack
     }
 
     fn of_text(text: &str) -> PrintedStack {
@@ -84,7 +95,7 @@ impl PrintedStack {
     /// Returns the frames up to the poll in which it was kept.
     pub(super) fn of_poll(&self) -> &[StackFrame] {
         let mut frames = self.frames.iter();
-        let end = frames.position(|frame| frame.function.contains(POLL));
+        let end = frames.position(StackFrame::polls);
         &self.frames[..end.unwrap_or(self.frames.len())]
     }
 }
@@ -110,15 +121,40 @@ impl StackFrame {
         self.function.contains("::") && !library.is_empty() && !LIBRARIES.contains(&library)
     }
 
-    /// Returns what is called, as `Mutex::lock`, or where functions have no paths, the module of a
+    /// Whether its function polls a task by its own waker.
+    fn polls(&self) -> bool {
+        let (source, name) = BARE_POLL;
+        let is_there = |(file, ..): &(String, u32, u32)| file.ends_with(source);
+        let is_bare = self.bare() == Some(name) && self.place.as_ref().is_some_and(is_there);
+        is_bare || self.function.contains(POLL)
+    }
+
+    /// Returns the name of its function without arguments, if it has no path.
+    fn bare(&self) -> Option<&str> {
+        // The name of a function of a trait begins with the bracket.
+        let name = self.function.split('<').next()?;
+        let has_path = name.is_empty() || name.contains("::");
+        (!has_path || name.starts_with('{')).then_some(name)
+    }
+
+    /// Looks up the path of its function in the source, if it has none.
+    fn complete(&mut self, sources: &mut ReadSources, here: &Path) {
+        let Some((file, line, _)) = self.place.as_ref().filter(|_| self.bare().is_some()) else {
+            return;
+        };
+        let file = here.join(file);
+        if sources.can_read(&file) {
+            // A macro has its lines there, and no function.
+            let path = sources.function_at(&file, *line);
+            self.function = path.unwrap_or_default();
+        }
+    }
+
+    /// Returns what is called, as `Mutex::lock`, or where its function has no path, the module of a
     /// library, as `sync::mutex`.
     pub(super) fn called(&self) -> String {
-        let has_path = self.function.contains("::") && !self.function.starts_with('{');
-        let bare = self.function.split('<').next().unwrap_or_default();
         match &self.place {
-            Some((file, ..)) if !has_path || !bare.contains("::") && !bare.is_empty() => {
-                module_of(file)
-            }
+            Some((file, ..)) if self.bare().is_some() => module_of(file),
             _ => self.short(),
         }
     }

@@ -81,6 +81,8 @@ pub(crate) struct FactStep {
     pub(super) made: Option<SourceLocation>,
     /// When it was called.
     pub(super) time: Option<CallTime>,
+    /// The number that snapshots have for the call, in a dump.
+    pub(super) stamp: Option<u64>,
     pub(super) cells: Cells,
 }
 

@@ -14,6 +14,16 @@ impl Account {
     /// Returns the object, without an end of its last line. Each fact, each wait and each loss is
     /// on a line of its own.
     pub(crate) fn to_json(&self) -> String {
+        self.json(true)
+    }
+
+    /// Returns the object without its list of losses, which the page finds in the journal itself:
+    /// that of a long run is longer than the journal.
+    pub(crate) fn to_json_for_page(&self) -> String {
+        self.json(false)
+    }
+
+    fn json(&self, has_losses: bool) -> String {
         let mut out = format!("{{\n  \"version\": {VERSION}");
         push_member(&mut out, "calls", &Json::number(self.calls));
         push_member(&mut out, "channels", &Json::number(self.channels));
@@ -34,7 +44,9 @@ impl Account {
         if !self.pending.is_empty() {
             push_lines(&mut out, "tasks", self.pending.iter().map(pending));
         }
-        push_lines(&mut out, "losses", self.losses.iter().map(loss));
+        if has_losses {
+            push_lines(&mut out, "losses", self.losses.iter().map(loss));
+        }
         push_member(&mut out, "failure", &optional_number(self.failure));
         push_member(&mut out, "look", &Json::number(self.look));
         out.push_str("\n}");
@@ -129,6 +141,7 @@ fn place(index: usize, step: &FactStep) -> Json {
     if let Some(time) = step.time {
         members.push(("time", Json::text(&time.iso())));
     }
+    members.extend(step.stamp.map(|stamp| ("stamp", Json::number(stamp))));
     Json::object(members)
 }
 
@@ -152,15 +165,21 @@ fn rest(rest: &Rest) -> Json {
 }
 
 fn wait(wait: &WaitAtEnd) -> Json {
-    Json::object(vec![
+    let mut members = vec![
         ("actor", Json::number(wait.actor)),
         ("channel", Json::number(wait.channel)),
         ("handle", Json::number(wait.handle)),
         ("call", Json::text(&wait.call)),
         ("since", Json::number(wait.since)),
         ("location", location_of(wait.location.as_ref())),
-        ("text", Json::text(&wait.text)),
-    ])
+    ];
+    if wait.is_woken {
+        members.push(("woken", Json::Bool(true)));
+    }
+    members.push(("text", Json::text(&wait.text)));
+    let stamp = wait.since_stamp;
+    members.extend(stamp.map(|stamp| ("since_stamp", Json::number(stamp))));
+    Json::object(members)
 }
 
 fn pending(task: &PendingTask) -> Json {
@@ -186,4 +205,22 @@ fn loss(loss: &Loss) -> Json {
         ("lost", Json::number(loss.lost)),
         ("end", Json::text(word)),
     ])
+}
+
+#[cfg(test)]
+mod tests {
+    use super::*;
+    use crate::run::sidecar::Sidecar;
+
+    #[test]
+    fn the_account_for_the_page_lacks_the_losses_alone() {
+        let text = b"ttd-journal 2\nbroadcast 1\nsteps\n\
+            1 0 0 send 0 5 = sent 1\n2 0 0 send 0 6 = sent 1\nend\n";
+        let account = Account::read(text, &Sidecar::default()).unwrap();
+        let losses = ",\n  \"losses\": [\n    {\"channel\": 0, \"receiver\": 1, \"from\": 2, \
+            \"to\": null, \"lost\": 1, \"end\": \"open\"}\n  ]";
+        let whole = account.to_json();
+        assert!(whole.contains(losses), "{whole}");
+        assert_eq!(account.to_json_for_page(), whole.replace(losses, ""));
+    }
 }

@@ -1,9 +1,9 @@
 //! What a call had to go by that waits for another value of a watch: the last change, whose value
 //! may be the wrong one, and a later `send_if_modified` that told nobody.
 
+use super::Context;
 use super::fact::{FactStep, Role};
 use super::silence::last_sent;
-use super::{Context, visible};
 use crate::run::journal::Spec;
 use crate::run::operation::Operation;
 use crate::run::reply::Reply;
@@ -43,41 +43,6 @@ fn told_nobody(context: &Context<'_>, channel: u32, (after, until): (u64, u64)) 
         let is_modify = entry.word == Operation::Modify && entry.reply == Reply::Told(0);
         entry.channel == channel && is_modify
     })
-}
-
-/// Says that a call which waits has something to receive, which came since it began: its task or
-/// thread hasn't run since.
-pub(super) fn came_since(context: &Context<'_>, call: &WaitingCall) -> Option<String> {
-    // A `wait_for` may have looked at it and go on waiting.
-    if call.held_by.is_some() || !["recv", "blocking_recv", "changed"].contains(&call.call.as_str())
-    {
-        return None;
-    }
-    let channel = call.channel as u32;
-    let since = context.place_of(call.since);
-    let end = context
-        .failure
-        .end()
-        .map_or(context.run.len(), |end| end.place);
-    let mut places = since + 1..=end;
-    let came = places.find(|place| {
-        let entry = context.run.entry(*place);
-        let is_sent = matches!(
-            entry.reply,
-            Reply::Sent(_) | Reply::Stored | Reply::Old(_) | Reply::Told(1)
-        );
-        entry.channel == channel && is_sent
-    })?;
-    let location = context.naming.call_source(channel, came);
-    let at = location.map_or(String::new(), |at| format!(", {}", visible::line_of(at)));
-    let what = match context.run.specs()[channel as usize] {
-        Spec::Broadcast(_) => "value",
-        Spec::Watch(_) => "change",
-    };
-    let came = visible::call(came);
-    Some(format!(
-        ", which hasn't run since a {what} came ({came}{at})"
-    ))
 }
 
 #[cfg(test)]
@@ -125,31 +90,5 @@ mod tests {
         );
         let steps = found.facts[0].steps.iter();
         assert!(steps.map(|step| step.place).eq([1, 2, 2]));
-    }
-
-    #[test]
-    fn a_call_that_has_something_to_receive_waits_for_its_turn() {
-        let entries = [
-            "1 0 recv 1 = value 0",
-            "0 0 send 0 1 = sent 1",
-            "0 0 send 0 2 = sent 1",
-        ];
-        let entries = ["0 0 send 0 0 = sent 1"].into_iter().chain(entries);
-        let entries: Vec<_> = entries.collect();
-        let told = |call: &str, failed: u64| {
-            let names = format!(
-                r#"{{"locations": [["a.rs", 7, 1]], "calls": {{"0": [null, null, 0, null]}},
-                "panics": [{{"text": "", "location": null, "actor": 0, "since": {failed}}}],
-                "waiting": [{{"actor": 1, "channel": 0, "handle": 1, "call": "{call}", "since": 2, "location": null}}]}}"#
-            );
-            let found = account(&["broadcast 4"], &entries, &names);
-            found.waiting[0].text.clone()
-        };
-        let waits = |call: &str| format!("actor 1 in `channel 0: {call}` since call 2");
-        let came = ", which hasn't run since a value came (call 3, a.rs:7)";
-        assert_eq!(told("recv", 4), waits("recv") + came);
-        // At the failure nothing had come, and a predicate may have refused what did.
-        assert_eq!(told("recv", 2), waits("recv"));
-        assert_eq!(told("wait_for", 4), waits("wait_for"));
     }
 }

@@ -239,11 +239,11 @@ impl Reasons<'_> {
         let stretches = stretches::within(self.own(), self.window, self.seen.now);
         let is_busy = |stretch: &Stretch| !self.is_idle(stretch);
         let stretches: Vec<_> = stretches.into_iter().filter(is_busy).collect();
-        if let Some((line, is_alone)) = self.burst() {
+        if let Some((lines, is_alone)) = self.burst() {
             let works =
                 |it: &Stretch| !matches!(it.doing, TaskDoing::Ready) && it.to >= self.window.1;
             if is_alone || !stretches.iter().any(works) {
-                return vec![line];
+                return lines;
             }
         }
         let mut told = self.worth_telling(stretches);
@@ -367,14 +367,18 @@ impl Reasons<'_> {
         if sender != self.task {
             return None;
         }
-        let sends = self.sends(self.window).len() as u64;
+        let until = match self.late.told {
+            0 => self.window.1,
+            told => self.context.run.entry(told).stamp,
+        };
+        let sends = self.sends((self.window.0, until)).len() as u64;
         let values = visible::counted(sends, "value");
         Some(format!("its own task sent {values} before it received"))
     }
 
-    /// Says that more was sent in one poll than the channel retains, if it was, and whether nobody
-    /// else had a turn meanwhile.
-    fn burst(&self) -> Option<(String, bool)> {
+    /// Says that more was sent in one poll than the channel retains, if it was, and what woke the
+    /// sender for that poll, if it is known. The second is whether nobody else had a turn.
+    fn burst(&self) -> Option<(Vec<String>, bool)> {
         let (sender, poll) = self.sender()?;
         let up_to_it = self.sends((poll.before, self.window.1)).len() as u64;
         if up_to_it <= self.late.retained {
@@ -384,8 +388,10 @@ impl Reasons<'_> {
         let mut polls = self.seen.tasks.iter().flat_map(|task| &task.polls);
         let is_alone = polls.all(|other| other.thread == poll.thread);
         self.context.lateness.note(poll.before, poll.last());
-        let text = self.texts.burst(&self.seen.tasks[sender], &sends, is_alone);
-        Some((text, is_alone))
+        let task = &self.seen.tasks[sender];
+        let mut lines = vec![self.texts.burst(task, &sends, is_alone)];
+        lines.extend(self.texts.woken_for(task, poll));
+        Some((lines, is_alone))
     }
 
     /// Says that it was ready, and who ran in its place.
@@ -404,7 +410,7 @@ impl Reasons<'_> {
                 texts.since(to)
             ),
         };
-        match texts.busy(self.task, stretch) {
+        match texts.busy(self.task, stretch, self.window) {
             Some(busy) => format!("{ready}: {busy}"),
             None => ready,
         }

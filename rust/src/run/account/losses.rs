@@ -7,6 +7,7 @@ use super::finding::orders;
 use super::lateness::{self, Late};
 use super::naming::Called;
 use super::traffic::LostValues;
+use super::window::number_in_snapshots;
 use super::{Context, visible};
 use crate::run::journal::{Loss, LossEnd, Spec};
 use crate::run::numbered::{NumberMap, NumberSet};
@@ -272,6 +273,7 @@ fn members(
         members.push(("at_most", Json::Bool(true)));
     }
     members.extend(idle(context, lost).map(|time| ("idle", Json::number(time))));
+    members.extend(received(context, lost).map(|call| ("received", call)));
     members
 }
 
@@ -390,8 +392,24 @@ fn last_receive(context: &Context<'_>, lost: &Lost) -> String {
     });
     format!(
         "its last receive: {}, {value}{before}",
-        visible::call(place)
+        context.call_in_snapshots(place)
     )
+}
+
+/// Returns the receiver's last receive in a dump, as the number that snapshots have for it tells.
+fn received(context: &Context<'_>, lost: &Lost) -> Option<Json> {
+    let place = context.traffic.losses()[lost.index].received;
+    if place <= context.history.lead {
+        return None;
+    }
+    let stamp = number_in_snapshots(context.names, context.run.entry(place).stamp)?;
+    let mut members = vec![
+        ("place", Json::number(place)),
+        ("stamp", Json::number(stamp)),
+    ];
+    let time = context.times.at(stamp);
+    members.extend(time.map(|time| ("time", Json::text(&time.iso()))));
+    Some(Json::object(members))
 }
 
 /// Returns how many microseconds the receiver's last receive was before the send that overwrote the

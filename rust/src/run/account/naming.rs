@@ -1,7 +1,8 @@
-//! What the text calls the things of a run: by their names, and by their numbers where they have
-//! none.
+//! What the text calls the things of a run: by their names, and where they have none by their
+//! places or numbers.
 
 use super::history::History;
+use super::unnamed::UnnamedChannel;
 use super::visible;
 use crate::run::journal::{ChannelValue, RunEntry};
 use crate::run::operation::Operation;
@@ -53,19 +54,22 @@ impl<'a> Naming<'a> {
         }
     }
 
-    /// Returns what a channel is called, as `prices` between backquotes, or `channel 0`.
+    /// Returns what a channel is called, as `prices` between backquotes, or by its place.
     pub(super) fn channel(&self, channel: u32) -> String {
         match self.names.channels.get(&channel.into()) {
             Some(name) => format!("`{}`", visible::name(name)),
-            None => format!("channel {channel}"),
+            None => UnnamedChannel::of(self.names, channel.into()).in_sentence(),
         }
     }
 
-    /// Returns a method of a channel, as `prices.recv`, or `channel 0: recv`.
+    /// Returns a method of a channel, as `prices.recv`, or `channel of src/bus.rs:12: recv`.
     pub(super) fn method(&self, channel: u32, method: &str) -> String {
         match self.names.channels.get(&channel.into()) {
             Some(name) => format!("{}.{method}", visible::name(name)),
-            None => format!("channel {channel}: {method}"),
+            None => {
+                let unnamed = UnnamedChannel::of(self.names, channel.into());
+                format!("{}: {method}", unnamed.short())
+            }
         }
     }
 

@@ -179,6 +179,7 @@ fn panic_step(context: &Context<'_>, at: &FailureAt, who: String) -> FactStep {
         location: location.cloned(),
         made: None,
         time: None,
+        stamp: None,
         cells: [
             "a panic".to_string(),
             "unwinds".to_string(),

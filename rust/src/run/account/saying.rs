@@ -4,6 +4,7 @@
 use super::Account;
 use super::history::History;
 use super::naming::Naming;
+use super::unnamed::UnnamedChannel;
 use super::visible;
 use crate::run::journal::{Run, RunEntry, TextFault};
 use crate::run::reply::Reply;
@@ -40,11 +41,11 @@ impl Saying {
         self.naming().actor(actor)
     }
 
-    /// Returns the name of a channel, or `channel 0`.
+    /// Returns the name of a channel, or what it is called by its place.
     pub(crate) fn channel(&self, channel: u32) -> String {
         match self.names.channels.get(&channel.into()) {
             Some(name) => visible::name(name),
-            None => format!("channel {channel}"),
+            None => UnnamedChannel::of(&self.names, channel.into()).short(),
         }
     }
 

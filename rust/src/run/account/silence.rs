@@ -8,7 +8,8 @@ use super::finding::orders;
 use super::history::Unreached;
 use super::nothing_came::NothingCame;
 use super::reading::last_drop;
-use super::{Context, last_change, lateness, locked, value, visible, waits};
+use super::window::number_in_snapshots;
+use super::{Context, last_change, lateness, locked, value, visible, waits, woken};
 use crate::run::reply::Reply;
 use crate::run::sidecar::{Json, WaitingCall};
 use crate::run::sorting::sort_by;
@@ -132,7 +133,8 @@ fn has_timed_out(context: &Context<'_>) -> bool {
     text.is_some_and(|text| TIMED_OUT.iter().any(|word| visible::has(text, word)))
 }
 
-/// Returns the wait that who failed dropped last, if it made no call since.
+/// Returns the wait that who failed dropped last, if it made no call since. One that is told as a
+/// wait at the failure was dropped by its unwinding.
 fn dropped(context: &Context<'_>) -> Option<usize> {
     let FailureAt { place, actor, .. } = context.failure.end()?;
     let dropped = context.names.dropped_waits.iter().enumerate().rev();
@@ -141,7 +143,11 @@ fn dropped(context: &Context<'_>) -> Option<usize> {
         let last = context.history.last_call(call.actor);
         until <= *place && last <= until
     };
-    let mut of_failed = dropped.filter(|(_, call)| Some(call.actor) == *actor && is_last(call));
+    let waited = &context.names.waited_at_failure;
+    let is_told =
+        |call: &WaitingCall| has_timed_out(context) && waited.iter().any(|it| it.is_same(call));
+    let mut of_failed =
+        dropped.filter(|(_, call)| Some(call.actor) == *actor && is_last(call) && !is_told(call));
     of_failed.next().map(|(index, _)| index)
 }
 
@@ -167,46 +173,32 @@ fn waited(context: &Context<'_>, call: &WaitingCall) -> Fact {
         .map_or(context.run.len(), |until| context.place_of(until));
     let method = naming.method(channel, &visible::name(&call.call));
     let who = naming.actor(call.actor);
-    let verb = match call.until {
-        None => "waits".to_string(),
-        Some(_) => match call.waited {
-            Some(time) => format!("waited {} and was dropped", visible::duration(time)),
-            None => "waited and was dropped".to_string(),
-        },
-    };
     // What unwinding did after the failure isn't why it waited.
     let until = context
         .failure
         .end()
         .map_or(until, |end| until.min(end.place));
-    let (why, mut steps, last) = match call.held_by {
-        // Nothing that is sent could end this.
-        Some(by) => {
-            let look = locked::step(context, call, by);
-            (locked::text(context, by), Vec::from_iter(look), None)
-        }
-        None => {
-            let why = NothingCame::of(context, (channel, handle), until);
-            let senders = who_could_end(context, call, until);
-            match came_meanwhile(context, call, &why) {
-                Some(sent) => {
-                    let said = "came, and the call was not polled since".to_string();
-                    let step = context.call_step(sent, Role::Sent, said);
-                    let text = format!(
-                        "it was not polled since {}, which ends it",
-                        visible::call(sent)
-                    );
-                    (text, vec![step], None)
-                }
-                None => {
-                    let steps = why.steps(context);
-                    let steps = steps.chain(last_change::steps(context, call, until));
-                    (why.text(context), steps.collect(), senders)
-                }
-            }
+    let why = why_it_waits(context, call, until);
+    // What it does, and what it did from its beginning on.
+    let (verb, did) = match call.until {
+        None if why.is_woken => ("was woken".to_string(), "waited".to_string()),
+        None => ("waits".to_string(), "waits".to_string()),
+        Some(_) => {
+            let did = match call.waited {
+                Some(time) => format!("waited {} and was dropped", visible::duration(time)),
+                None => "waited and was dropped".to_string(),
+            };
+            (did.clone(), did)
         }
     };
+    let late = if why.is_woken {
+        vec![]
+    } else {
+        lateness::of_wait(context, call, until)
+    };
+    let mut steps = why.steps;
     let location = call.location.and_then(|index| naming.source(index));
+    let stamp = number_in_snapshots(context.names, call.since);
     steps.push(FactStep {
         place: since,
         role: Role::Begin,
@@ -214,12 +206,13 @@ fn waited(context: &Context<'_>, call: &WaitingCall) -> Fact {
         location: location.cloned(),
         made: naming.made(channel, handle).cloned(),
         time: None,
+        stamp,
         cells: [
             context.since(since),
             method.clone(),
             who.clone(),
             location.map_or(String::new(), visible::line_of),
-            verb.clone(),
+            stamp.map_or(did.clone(), |stamp| format!("{did}; {stamp} in snapshots")),
         ],
     });
     Fact {
@@ -236,20 +229,58 @@ fn waited(context: &Context<'_>, call: &WaitingCall) -> Fact {
             ("name", Json::text(&who)),
             ("waited", call.waited.map_or(Json::Null, Json::number)),
         ],
-        head: format!("`{method}` of {who} {verb}: {why}"),
+        head: format!("`{method}` of {who} {verb}: {}", why.text),
         sights: (0..steps.len()).rev().collect(),
         look: since,
         steps,
-        last,
-        late: lateness::of_wait(context, call, until),
+        last: why.last,
+        late,
     }
 }
 
-/// Returns the last send if it came while this call waited for one, and would have ended it.
-fn came_meanwhile(context: &Context<'_>, call: &WaitingCall, why: &NothingCame) -> Option<u64> {
-    let ends = matches!(call.call.as_str(), "recv" | "changed");
-    let sent = Some(why.sent).filter(|sent| ends && *sent > context.place_of(call.since));
-    sent.filter(|sent| *sent > context.history.lead)
+/// Why a call waits, or waited until it was woken or dropped.
+struct WhyItWaits {
+    /// Whether it was woken, and has not gone on since.
+    is_woken: bool,
+    text: String,
+    /// The calls that show it.
+    steps: Vec<FactStep>,
+    /// Who could have ended it.
+    last: Option<String>,
+}
+
+/// Says why a call waits, up to a place.
+fn why_it_waits(context: &Context<'_>, call: &WaitingCall, until: u64) -> WhyItWaits {
+    if let Some(by) = call.held_by {
+        // Nothing that is sent could end this.
+        return WhyItWaits {
+            is_woken: false,
+            text: locked::text(context, by),
+            steps: Vec::from_iter(locked::step(context, call, by)),
+            last: None,
+        };
+    }
+    let awakening = woken::awakening(context, call, until);
+    if awakening.is_some() || woken::is_woken_somewhere(context, call) {
+        let since = awakening.map(|it| visible::call(it.place()));
+        let since = since.map(|call| format!(" {call}, which ends it"));
+        return WhyItWaits {
+            is_woken: true,
+            text: format!("it was not polled since{}", since.unwrap_or_default()),
+            steps: Vec::from_iter(awakening.map(|it| it.step(context))),
+            last: None,
+        };
+    }
+    let receiver = (call.channel as u32, call.handle as u32);
+    let why = NothingCame::of(context, receiver, until);
+    let steps = why.steps(context);
+    let steps = steps.chain(last_change::steps(context, call, until));
+    WhyItWaits {
+        is_woken: false,
+        text: why.text(context),
+        steps: steps.collect(),
+        last: who_could_end(context, call, until),
+    }
 }
 
 /// Puts the last call of who failed into words, which found nothing.

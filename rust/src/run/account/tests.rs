@@ -311,6 +311,35 @@ fn a_wait_of_another_than_who_failed_is_no_error() {
 }
 
 #[test]
+fn a_wait_that_only_the_unwinding_dropped_is_told_once() {
+    let call = |handle: u32, more: &str| {
+        format!(
+            r#"{{"actor": 0, "channel": 0, "handle": {handle}, "call": "recv", "since": 0, "location": null{more}}}"#
+        )
+    };
+    let over = r#", "until": 0, "waited": 50000"#;
+    let waits = "`channel 0: recv` of actor 0 waits: nothing was sent to channel 0";
+    let dropped =
+        "`channel 0: recv` of actor 0 waited 50 ms and was dropped: nothing was sent to channel 0";
+    let found = |waited: &str, dropped: &[String], text: &str| {
+        let dropped = dropped.join(", ");
+        let names = format!(
+            r#"{{"waited_at_failure": [{waited}], "dropped_waits": [{dropped}],
+            "panics": [{{"text": "{text}", "location": null, "actor": 0, "since": 0}}]}}"#
+        );
+        account(&["broadcast 1"], &[], &names)
+    };
+    let (waited, unwound) = (call(1, ""), call(1, over));
+    let told = found(&waited, std::slice::from_ref(&unwound), "Elapsed(())");
+    assert_eq!(heads(&told), [waits]);
+    // One that was dropped before is another, and so is one where the failure is of no wait.
+    let told = found(&waited, &[call(2, over), unwound.clone()], "Elapsed(())");
+    assert_eq!(heads(&told), [dropped, waits]);
+    let told = found(&waited, &[unwound], "left: 1");
+    assert_eq!(heads(&told), [dropped]);
+}
+
+#[test]
 fn a_call_that_waits_for_a_lock_is_told_whose_look_holds_it() {
     // Actor 1 looks twice, and takes the look that it holds before it waits on line 8.
     let entries = [

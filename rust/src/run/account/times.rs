@@ -1,9 +1,7 @@
 //! When calls were made, in words: by the clock of UTC, and how long before the dump.
 
-use crate::run::clock::{Moment, date};
+use crate::run::clock::{MILLISECONDS_OF_DAY, Moment, date_and_clock, iso, moment_among};
 use crate::run::sidecar::Sidecar;
-
-const MILLISECONDS_OF_DAY: u64 = 86_400_000;
 
 /// The units of a duration with how many microseconds each has, and how many are said at most.
 const UNITS: [(&str, u64, u64); 4] = [
@@ -44,50 +42,33 @@ impl<'a> WindowTimes<'a> {
     /// them it is by the stamps.
     pub(super) fn at(&self, stamp: u64) -> Option<CallTime> {
         // The dump may have the stamp of the last call, whose own time is before it.
-        let next = self.known.partition_point(|time| time.stamp < stamp);
-        let after = self.known.get(next)?;
-        let before = if after.stamp == stamp {
-            after
-        } else {
-            self.known.get(next.checked_sub(1)?)?
-        };
+        let made = moment_among(self.known, stamp)?;
         let dump = self.known.last()?;
-        let part = (stamp - before.stamp, after.stamp - before.stamp);
-        let wall = between(before.wall, after.wall, part);
-        let since_start = between(before.since_start, after.since_start, part);
         Some(CallTime {
-            wall,
-            before_dump: dump.since_start.saturating_sub(since_start),
-            is_on_day_of_dump: wall / MILLISECONDS_OF_DAY == dump.wall / MILLISECONDS_OF_DAY,
+            wall: made.wall,
+            before_dump: dump.since_start.saturating_sub(made.since_start),
+            is_on_day_of_dump: made.wall / MILLISECONDS_OF_DAY == dump.wall / MILLISECONDS_OF_DAY,
         })
     }
 }
 
-/// Returns the number that is `part` of `whole` parts of the way from `from` to `to`.
-fn between(from: u64, to: u64, (part, whole): (u64, u64)) -> u64 {
-    if whole == 0 {
-        return from;
-    }
-    let way = i128::from(to) - i128::from(from);
-    let number = i128::from(from) + way * i128::from(part) / i128::from(whole);
-    u64::try_from(number).unwrap_or(0)
-}
-
 impl CallTime {
-    /// As `at 03:12:45.120 UTC, 4 s before the dump`. The date is there where it isn't the dump's.
+    /// As `at 03:12:45.120 UTC, 4 s before the dump`.
     pub(super) fn text(&self) -> String {
-        let (date, clock) = date_and_clock(self.wall);
-        let at = if self.is_on_day_of_dump {
-            clock
-        } else {
-            format!("{date} {clock}")
-        };
+        let at = self.clock();
         match self.before_dump / 1_000 {
-            0 => format!("at {at} UTC, at the dump"),
-            _ => format!(
-                "at {at} UTC, {} before the dump",
-                duration(self.before_dump)
-            ),
+            0 => format!("{at}, at the dump"),
+            _ => format!("{at}, {} before the dump", duration(self.before_dump)),
+        }
+    }
+
+    /// As `at 03:12:45.120 UTC`. The date is there where it isn't the dump's.
+    pub(super) fn clock(&self) -> String {
+        let (date, clock) = date_and_clock(self.wall);
+        if self.is_on_day_of_dump {
+            format!("at {clock} UTC")
+        } else {
+            format!("at {date} {clock} UTC")
         }
     }
 
@@ -98,8 +79,7 @@ impl CallTime {
 
     /// As `2026-11-29T03:12:45.120Z`.
     pub(super) fn iso(&self) -> String {
-        let (date, clock) = date_and_clock(self.wall);
-        format!("{date}T{clock}Z")
+        iso(self.wall)
     }
 }
 
@@ -111,30 +91,10 @@ fn duration(microseconds: u64) -> String {
     format!("{} {name}", microseconds / of)
 }
 
-/// Returns a time of the wall clock in UTC, as `2026-11-29 03:12:45.120`.
-pub(super) fn utc(wall: u64) -> String {
-    let (date, clock) = date_and_clock(wall);
-    format!("{date} {clock}")
-}
-
-/// Returns the date and the time of day in UTC at `wall` milliseconds since the epoch.
-fn date_and_clock(wall: u64) -> (String, String) {
-    let (days, time) = (wall / MILLISECONDS_OF_DAY, wall % MILLISECONDS_OF_DAY);
-    let (year, month, day) = date(days);
-    let date = format!("{year:04}-{month:02}-{day:02}");
-    let (seconds, rest) = (time / 1_000, time % 1_000);
-    let (minutes, second) = (seconds / 60, seconds % 60);
-    let clock = format!(
-        "{:02}:{:02}:{second:02}.{rest:03}",
-        minutes / 60,
-        minutes % 60
-    );
-    (date, clock)
-}
-
 #[cfg(test)]
 mod tests {
     use super::*;
+    use crate::run::clock::utc;
     use crate::run::sidecar::WindowNames;
 
     #[test]

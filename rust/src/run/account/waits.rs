@@ -3,8 +3,8 @@
 use super::fact::own_location;
 use super::finding::Finding;
 use super::silence::Silence;
-use super::window::BEFORE;
-use super::{Context, last_change, visible};
+use super::window::{BEFORE, number_in_snapshots};
+use super::{Context, visible, woken};
 use crate::run::sidecar::{HeldBy, SourceLocation, WaitingCall};
 
 /// A call that waits.
@@ -16,9 +16,13 @@ pub(crate) struct WaitAtEnd {
     pub(super) call: String,
     /// How many calls had been made when it began to wait.
     pub(super) since: u64,
+    /// The number that snapshots have for the last of these calls, in a dump.
+    pub(super) since_stamp: Option<u64>,
     pub(super) location: Option<SourceLocation>,
     // Where the sender or receiver that it is a call of was created.
     made: Option<SourceLocation>,
+    /// Whether it was woken and hasn't gone on since.
+    pub(super) is_woken: bool,
     /// Whether a fact that is told in full tells of it.
     pub(crate) is_told: bool,
     /// Who waits, in which call, since when and where.
@@ -62,19 +66,22 @@ fn wait(context: &Context<'_>, call: &WaitingCall) -> WaitAtEnd {
         .place_of_stamp(call.since)
         .max(context.history.lead);
     let location = call.location.and_then(|index| context.naming.source(index));
+    let woken = woken::said(context, call);
     WaitAtEnd {
         actor: call.actor,
         channel: call.channel,
         handle: call.handle,
         call: call.call.clone(),
         since,
+        since_stamp: number_in_snapshots(context.names, call.since),
         location: location.cloned(),
         made: context
             .naming
             .made(call.channel as u32, call.handle as u32)
             .cloned(),
+        is_woken: woken.is_some(),
         is_told: false,
-        text: text(context, call, since, location),
+        text: text(context, call, since, location) + woken.as_deref().unwrap_or_default(),
     }
 }
 
@@ -90,17 +97,17 @@ fn text(
         place if place == context.history.lead => BEFORE.to_string(),
         place => visible::call(place),
     };
+    let stamp = number_in_snapshots(context.names, call.since);
+    let stamp = stamp.map_or(String::new(), |stamp| format!(" ({stamp} in snapshots)"));
     let at = location.map_or(String::new(), |location| {
         format!(", {}", visible::line_of(location))
     });
-    let came = last_change::came_since(context, call);
     format!(
-        "{} in `{}` since {since}{at}{}{}",
+        "{} in `{}` since {since}{stamp}{at}{}",
         naming.actor(call.actor),
         naming.method(call.channel as u32, &visible::name(&call.call)),
         call.held_by
             .map_or(String::new(), |by| held_by(context, by)),
-        came.unwrap_or_default(),
     )
 }
 

@@ -1,13 +1,18 @@
 //! Why a run begins in a window, and which of its calls are those of the window.
 
-use super::times::utc;
 use super::visible;
-use crate::run::clock::FLIGHT_START;
+use crate::run::clock::{FLIGHT_START, utc};
 use crate::run::journal::Run;
 use crate::run::sidecar::{Sidecar, WindowNames};
 
 /// What a call is called that was made before the window, of which its journal has no place.
 pub(super) const BEFORE: &str = "before the window";
+
+/// Returns the number that snapshots have for the call with this stamp, if the run is a dump of a
+/// flight recorder.
+pub(super) fn number_in_snapshots(names: &Sidecar, stamp: u64) -> Option<u64> {
+    (names.window.is_some() && stamp > FLIGHT_START).then_some(stamp)
+}
 
 /// The window of a run.
 #[derive(Debug)]
@@ -24,16 +29,15 @@ impl WindowSaid {
     pub(super) fn of_run(names: &Sidecar, run: &Run) -> Option<WindowSaid> {
         let said = WindowSaid::of(names, run.len())?;
         let (first, last) = (said.window.lead + 1, run.len());
-        if first > last || run.entry(first).stamp <= FLIGHT_START {
+        if first > last {
             return Some(said);
         }
-        let stamps = [first, last].map(|place| run.entry(place).stamp);
-        let in_snapshots = format!(
-            "calls {first} to {last} are {} to {} in snapshots",
-            stamps[0], stamps[1]
-        );
+        let [from, to] = [first, last].map(|place| run.entry(place).stamp);
+        let number = number_in_snapshots(names, from);
+        let in_snapshots =
+            number.map(|from| format!("calls {first} to {last} are {from} to {to} in snapshots"));
         Some(WindowSaid {
-            in_snapshots: Some(in_snapshots),
+            in_snapshots,
             ..said
         })
     }

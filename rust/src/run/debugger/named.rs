@@ -263,7 +263,9 @@ impl Entities {
     /// Returns what a name stands for: a receiver, a channel, or an actor; or `channel0`, or the
     /// receiver of a number as `orders.receiver1`.
     pub fn find(&self, name: &str) -> Option<Entity> {
-        if let Some(thing) = self.by_name.get(&*visible::name(name)) {
+        // That of a place isn't cut.
+        let of_name = |name: &str| self.by_name.get(name);
+        if let Some(thing) = of_name(&visible::name(name)).or_else(|| of_name(name)) {
             return Some(*thing);
         }
         if let Some((channel, receiver)) = name.rsplit_once('.') {
@@ -288,7 +290,8 @@ impl Entities {
 
     fn channel(&self, name: &str, is_meant: impl Fn(u32) -> bool) -> Option<u32> {
         let visible = visible::name(name);
-        let is_named = |number: &u32| self.channels[*number as usize].0 == visible;
+        let is_named =
+            |number: &u32| [name, &visible].contains(&&*self.channels[*number as usize].0);
         let meant = || (0..self.channels.len() as u32).filter(|number| is_meant(*number));
         let numbered = numbered(name, "channel");
         meant()

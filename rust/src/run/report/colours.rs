@@ -6,6 +6,7 @@ const BOLD: &str = "\x1b[1m";
 const RED: &str = "\x1b[31m";
 const GREEN: &str = "\x1b[32m";
 const YELLOW: &str = "\x1b[33m";
+const BLUE: &str = "\x1b[34m";
 const CYAN: &str = "\x1b[36m";
 const PLAIN: &str = "\x1b[0m";
 
@@ -55,6 +56,10 @@ impl Colours {
 
     pub(super) fn waiting(self, label: &str) -> String {
         self.within(YELLOW, label)
+    }
+
+    pub(super) fn unread(self, bars: &str) -> String {
+        self.within(BLUE, bars)
     }
 
     pub(super) fn look(self, label: &str) -> String {

@@ -1,6 +1,7 @@
 //! The whole text for runs of each kind. The runs are small, and their texts are worked by hand.
 
 use super::Report;
+use crate::run::journal::Run;
 use crate::run::sidecar::Sidecar;
 
 /// Returns the text on a run: its channels, its entries without stamps, and the names beside it.
@@ -57,6 +58,32 @@ and 1 channel closed
 look: at call 3
 "#;
     assert_eq!(said(&["broadcast 2"], &LATE, ALL_NAMES), wanted);
+}
+
+#[test]
+fn a_test_that_returns_an_error_may_have_made_no_call_itself() {
+    let names = r#"{"version": 3, "returned": {"location": null, "since": 8}, "actors": {"0": "ticker", "1": "auditor"},
+        "test": {"package": "bus", "target": "test-bus", "name": "no_price_is_missing", "thread": "no_price_is_missing"}}"#;
+    let failed = "failed: no_price_is_missing returned an error\n";
+    assert!(said(&["broadcast 2"], &LATE, names).starts_with(failed));
+}
+
+#[test]
+fn without_a_name_a_channel_is_called_by_its_place() {
+    let names = ALL_NAMES.replace(r#""channels": {"0": "prices"}"#, r#""channels": {}"#);
+    let names = names.replace(r#""calls""#, r#""made": {"0": {"0": 2, "1": 2}}, "calls""#);
+    let names = names.replace("22, 25]]", r#"22, 25], ["tests/bus.rs", 9, 26]]"#);
+    let wanted = r#"error: `auditor` lost 3 of 5 values of the channel of tests/bus.rs:9 (capacity 2)
+  --> tests/bus.rs:22:25
+note: call 3, the send that overwrote the first of them
+  --> tests/bus.rs:15:9
+  call 3   channel of tests/bus.rs:9: send("103 EUR")   ticker   tests/bus.rs:15   overwrote "101 EUR", which auditor had not read
+  call 7   told: lagged 3                               auditor  tests/bus.rs:22   its last receive: none before
+  lost: "101 EUR", "102 EUR", "103 EUR"
+and 1 channel closed
+look: at call 3
+"#;
+    assert_eq!(said(&["broadcast 2"], &LATE, &names), wanted);
 }
 
 #[test]
@@ -330,4 +357,128 @@ fn names_of_another_run_do_no_harm() {
         "waiting": [{"actor": 1, "channel": 5, "handle": 1, "call": "recv", "since": 3, "location": 1}]}"#;
     let wanted = said(&["broadcast 2"], &LATE, "{}");
     assert_eq!(said(&["broadcast 2"], &LATE, names), wanted);
+}
+
+/// Returns the text on a run for a terminal of this width.
+fn drawn(channels: &[&str], entries: &[impl AsRef<str>], names: &str, width: usize) -> String {
+    let names = Sidecar::read(names).unwrap();
+    let run = Run::read(journal(channels, entries).as_bytes()).unwrap();
+    let report = Report::on(&run, &names).unwrap();
+    report.text_for_terminal("there".to_string(), (width, false), Some((&run, &names)))
+}
+
+#[test]
+fn a_terminal_has_a_strip_of_the_receiver_that_lost() {
+    let wanted = r#"error: `auditor` lost 3 of 5 values of `prices` (capacity 2)
+  --> tests/bus.rs:22:25
+note: call 3, the send that overwrote the first of them
+  --> tests/bus.rs:15:9
+  call 3   prices.send("103 EUR")   ticker   tests/bus.rs:15   overwrote "101
+      EUR", which auditor had not read
+  call 7   told: lagged 3           auditor  tests/bus.rs:22   its last receive:
+      none before
+  lost: "101 EUR", "102 EUR", "103 EUR"
+  auditor  ▁▅█▒▒▒▒█▅▁▁
+              ^   ^
+  start to call 11; ^ call 3, call 7; ▒ overwritten
+and 1 channel closed
+look: there
+"#;
+    assert_eq!(drawn(&["broadcast 2"], &LATE, ALL_NAMES, 80), wanted);
+}
+
+#[test]
+fn where_nothing_was_overwritten_a_strip_says_what_its_highest_level_is() {
+    let entries = [
+        "0 0 send 0 0 = sent 1",
+        "0 0 send 0 1 = sent 1",
+        "0 0 drop 0 = dropped",
+        "1 0 recv 1 = value 0",
+        "1 0 recv 1 = value 1",
+        "1 0 recv 1 = closed",
+    ];
+    // A channel of 3 retains 4: one to receive is 7/4 of the 7 steps, and two are 14/4, rounded up.
+    let wanted = "
+  receiver 1  ▁▃▅▅▃▁▁
+                 ^  ^
+  start to call 6; ^ call 3, call 6; █ 4 to receive
+";
+    let text = drawn(&["broadcast 3"], &entries, "{}", 80);
+    assert!(text.contains(wanted), "{text}");
+}
+
+#[test]
+fn a_long_run_has_several_calls_a_column_and_keeps_within_eighty() {
+    // 2 values are retained of 1,000, and the receiver reads none before the last call.
+    let sends = (0..1000).map(|value| format!("0 0 send 0 {value} = sent 1"));
+    let all: Vec<_> = sends.chain(["1 0 recv 1 = lagged 998".into()]).collect();
+    let text = drawn(&["broadcast 2"], &all, "{}", 200);
+    let lines: Vec<_> = text.lines().collect();
+    let at = lines.iter().position(|it| it.contains('▒')).unwrap();
+    // 66 columns beside the name would have 15.2 calls each, so they have 16: the start and 1,001
+    // calls are 63 columns. In the first of them values are lost already, and in the last one too.
+    let strip = format!("  receiver 1  {}", "▒".repeat(63));
+    let marks = format!("{}^{}^", " ".repeat(14), " ".repeat(61));
+    let caption = "  start to call 1001, 16 a column; ^ call 3, call 1001; ▒ overwritten";
+    assert_eq!(lines[at..at + 3], [&strip, &marks, caption]);
+}
+
+#[test]
+fn a_long_run_is_drawn_around_the_calls_of_the_fact() {
+    let pair = |value: u64| {
+        [
+            format!("0 0 send 0 {value} = sent 1"),
+            format!("1 0 recv 1 = value {value}"),
+        ]
+    };
+    let late = [
+        "0 0 send 0 1 = sent 1",
+        "0 0 send 0 2 = sent 1",
+        "0 0 send 0 3 = sent 1",
+        "1 0 recv 1 = lagged 1",
+        "1 0 recv 1 = value 2",
+        "1 0 recv 1 = value 3",
+    ];
+    let before = (0..500).flat_map(pair);
+    let all = before.chain(late.map(String::from));
+    let all: Vec<_> = all.chain((0..500).flat_map(pair)).collect();
+    let text = drawn(&["broadcast 2"], &all, "{}", 80);
+    let lines: Vec<_> = text.lines().collect();
+    let at = lines.iter().position(|it| it.contains('▒')).unwrap();
+    // 66 columns: 48 before call 3, and it is told by the next one.
+    let strip = format!("  receiver 1  {}▅█▒█▅▁{}", "▅▁".repeat(23), "▅▁".repeat(7));
+    let marks = format!("{}^^", " ".repeat(14 + 48));
+    let caption = "  call 955 to call 1020; ^ call 1003, call 1004; ▒ overwritten";
+    assert_eq!(lines[at..at + 3], [&strip, &marks, caption]);
+}
+
+#[test]
+fn a_watch_is_high_where_its_receiver_has_not_seen_the_value() {
+    let entries = [
+        "0 0 send 0 1 = stored",
+        "1 0 update 1 = value 1",
+        "0 0 send 0 2 = stored",
+        "0 0 send 0 3 = stored",
+        "1 0 drop 1 = dropped",
+        "0 0 drop 0 = dropped",
+    ];
+    let text = drawn(&["watch 0"], &entries, "{}", 80);
+    let strip = text.lines().find(|it| it.contains('█')).unwrap();
+    assert_eq!(strip, "  receiver 1  ▁█▁██");
+}
+
+#[test]
+fn a_fact_of_no_receiver_has_the_first_eight_of_its_channel() {
+    let made = (2..11).map(|handle| format!("0 0 subscribe 0 = new {handle}"));
+    let all: Vec<_> = made.chain(["0 0 drop 0 = dropped".into()]).collect();
+    let text = drawn(&["broadcast 2"], &all, "{}", 80);
+    let strips = text.lines().filter(|it| it.starts_with("  receiver "));
+    let strips: Vec<_> = strips.collect();
+    // Receiver 1 opens with the channel, receiver 2 is made by the first call, and so on.
+    let wanted = (1..9).map(|handle| {
+        let before = " ".repeat(handle - 1);
+        format!("  receiver {handle}  {before}{}", "▁".repeat(12 - handle))
+    });
+    assert_eq!(strips, wanted.collect::<Vec<_>>());
+    assert!(text.contains("\n  and 2 more\n"), "{text}");
 }

@@ -11,15 +11,16 @@ const MOST_SOURCES: usize = 256;
 /// How many bytes a source has at most that is read, and all of them together.
 const MOST_BYTES: u64 = 16_777_216;
 
-/// The parts of paths that the sources of others have: of the standard library, and of what cargo
-/// has downloaded.
-const OTHERS: [&str; 6] = [
+/// The parts of paths that the sources of others have: of the standard library, of what cargo has
+/// downloaded, and of the copy of tokio's that `cargo yovanelum` builds.
+const OTHERS: [&str; 7] = [
     "/.cargo/registry/",
     "/.cargo/git/",
     "/cargo/registry/",
     "/git/checkouts/",
     "/rustc/",
     "/rustlib/",
+    "/yovanelum/stand-in/",
 ];
 
 /// Whether a source is one of the standard library, or of what cargo has downloaded.
@@ -79,6 +80,13 @@ mod tests {
             line: 1,
             column: 1,
         }
+    }
+
+    #[test]
+    fn the_copy_of_tokio_s_sources_is_none_of_the_program() {
+        let copy = "/shop/target/yovanelum/stand-in/tokio-1.53.2/registry/tokio/src/lib.rs";
+        assert!(is_downloaded(copy));
+        assert!(!is_downloaded("/shop/src/lib.rs"));
     }
 
     #[test]

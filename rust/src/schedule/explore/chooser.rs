@@ -103,7 +103,7 @@ fn by_sampling(
     let best = (0..all.len()).max_by_key(|index| all[*index]).unwrap_or(0);
     let channel = |what: &What| match what {
         What::Call { channel, .. } => Some(*channel),
-        What::Poll | What::Time { .. } => None,
+        What::Poll | What::Time { .. } | What::Point { .. } => None,
     };
     let of_best = channel(&candidates[best].what);
     for candidate in candidates {
@@ -281,6 +281,7 @@ mod tests {
                 turn: Turn::Free,
                 what: What::Poll,
                 at: None,
+                waited_for: None,
                 who: (*who).into(),
             };
             who.iter().map(step).collect()

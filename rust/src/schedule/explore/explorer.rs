@@ -9,10 +9,13 @@ use super::chooser::Chooser;
 use super::order::Order;
 use super::schedule::{RunEnd, Schedule};
 use super::spinning::CallInSource;
-use super::state::ExplorerState;
-use super::threads::this_thread;
-use crate::channels::actors::{self, is_in_task, last_task, set_last_task};
+use super::stand::{Arrival, ArrivingPoint, Stand};
+use super::state::{ExplorerState, WaitPlaces};
+use super::threads::{OURS, this_thread};
+use crate::channels::actors::{self, is_in_task, last_task, note_facade, set_last_task};
+use crate::channels::timers::Timers;
 use crate::channels::turns::{ArrivingCall, Tasks, TestEnd, Ticket, Turns};
+use crate::channels::whereabouts::{PlaceNumber, current_place};
 use crate::run::operation::CallSet;
 use crate::run::sidecar::Maker;
 use crate::schedule::entrance::Entrance;
@@ -22,6 +25,7 @@ use std::sync::atomic::{AtomicU32, Ordering};
 use std::sync::{Arc, PoisonError};
 use std::task::{Context, Poll, Waker};
 use std::thread;
+use std::time::{Duration, Instant};
 
 /// What the name of a thread begins with that runs any task of tokio.
 const WORKER: &str = "tokio-runtime-worker";
@@ -44,30 +48,41 @@ enum PollOutcome {
 pub(crate) struct Explorer {
     pub(super) entrance: Entrance<ExplorerState>,
     channels: AtomicU32,
+    /// Whether calls of tokio's own are chosen too.
+    has_points: bool,
+}
+
+/// What is chosen in a run beside calls on recorded channels and polls.
+#[derive(Clone, Copy)]
+pub(super) struct Offered {
+    pub(super) time: bool,
+    /// Calls of tokio's own.
+    pub(super) points: bool,
 }
 
 impl Explorer {
     /// # Errors
     ///
     /// Returns an error if the order follows a file that can't be read.
-    pub(super) fn new(order: &Order, is_time_offered: bool) -> io::Result<Explorer> {
+    pub(super) fn new(order: &Order, offered: Offered) -> io::Result<Explorer> {
         let chooser = Chooser::new(order)?;
-        let state = ExplorerState::new(order, chooser, is_time_offered);
+        let state = ExplorerState::new(order, chooser, offered);
         Ok(Explorer {
             entrance: Entrance::new(state, false),
             channels: AtomicU32::new(0),
+            has_points: offered.points,
         })
     }
 
     /// Blocks until the call is let go. Returns `false` if all calls pass.
-    fn wait(&self, coming: ArrivingCall) -> bool {
+    fn wait(&self, arrival: Arrival) -> bool {
         if self.entrance.is_over() {
             return false;
         }
         let mut state = self.entrance.enter();
         let who = who(&mut state);
         state.moved();
-        let stand = state.add(who, Some(coming));
+        let stand = state.add(who, arrival);
         let (number, own) = (stand.number, stand.own.clone());
         // Whoever comes last chooses, without a switch of threads.
         self.try_choose(&mut state);
@@ -105,7 +120,7 @@ impl Explorer {
     ) -> (PollOutcome, Option<Waker>) {
         let this = this_thread();
         let Some(index) = state.poll_of(who) else {
-            let stand = state.add(who.clone(), None);
+            let stand = state.add(who.clone(), Arrival::Poll);
             if stand.spins {
                 return (PollOutcome::HeldAwake, Some(waker));
             }
@@ -160,17 +175,21 @@ impl Explorer {
             stand.own.notify_all();
             state.wakers.extend(stand.waker.take());
         }
-        state.stands.retain(|stand| stand.call.is_some());
+        let of_timers = state.clock.leave();
+        state.wakers.extend(of_timers);
+        state.stands.retain(Stand::is_blocking);
         self.entrance.helper.notify_all();
     }
 
-    /// Lets all go from now on, and returns what the run has been.
-    pub(super) fn end(&self, end: RunEnd) -> Schedule {
+    /// Lets all go from now on, and returns what the run has been, with the places where tasks
+    /// waited.
+    pub(super) fn end(&self, end: RunEnd) -> (Schedule, WaitPlaces) {
         let mut state = self.entrance.lock();
+        state.schedule.lost = state.lost();
         self.open(&mut state);
         state.schedule.end = end;
         state.schedule.diverged = state.chooser.diverged();
-        state.schedule.clone()
+        (state.schedule.clone(), state.wait_places.clone())
     }
 }
 
@@ -187,7 +206,7 @@ impl Turns for Explorer {
     }
 
     fn pass(&self, coming: ArrivingCall, has_unread: &dyn Fn() -> bool) -> bool {
-        if self.wait(coming) {
+        if self.wait(Arrival::Call(coming)) {
             let takes = coming.word.is(CallSet::TAKES);
             self.goes(&coming, takes && has_unread());
         }
@@ -195,7 +214,7 @@ impl Turns for Explorer {
     }
 
     fn pass_to_modify(&self, coming: ArrivingCall) {
-        self.wait(coming);
+        self.wait(Arrival::Call(coming));
     }
 
     /// Blocks the thread, whose task was let go before.
@@ -248,6 +267,13 @@ impl Tasks for Explorer {
         polled != PollOutcome::Goes
     }
 
+    fn waits(&self, task: &Arc<str>, at: PlaceNumber) {
+        if !self.entrance.is_over() {
+            let mut state = self.entrance.enter();
+            state.wait_places.now.insert(task.clone(), at);
+        }
+    }
+
     fn leave(&self, task: &Arc<str>) {
         if !is_in_task() {
             set_last_task(task);
@@ -255,8 +281,64 @@ impl Tasks for Explorer {
         let mut state = self.entrance.enter();
         let index = state.poll_of(task);
         let left = index.map(|index| state.stands.swap_remove(index));
+        state.wait_places.now.remove(task);
         state.moved();
         drop(state);
+        drop(left);
+    }
+
+    fn stand_at(&self, called: &'static str) {
+        if !self.has_points || self.entrance.is_over() || is_outside_of_tasks() {
+            return;
+        }
+        note_facade();
+        let at = Some(current_place());
+        self.wait(Arrival::Point(ArrivingPoint { called, at }));
+    }
+}
+
+/// Whether this is a thread of tokio's that runs no task, or one of this crate.
+fn is_outside_of_tasks() -> bool {
+    let thread = thread::current();
+    let name = thread.name().unwrap_or_default();
+    name.as_bytes().starts_with(OURS) || name.starts_with(WORKER) && !is_in_task()
+}
+
+/// The timers of the package that stands for tokio end by the clock of the run.
+impl Timers for Explorer {
+    fn now(&self) -> Option<Duration> {
+        let state = self.entrance.enter();
+        (!self.entrance.is_over()).then(|| state.clock.now())
+    }
+
+    fn due(&self, deadline: Instant) -> Duration {
+        self.entrance.enter().clock.due(deadline)
+    }
+
+    fn set(&self, due: Duration) -> u64 {
+        self.entrance.enter().clock.set(due)
+    }
+
+    fn poll(&self, number: u64, context: &Context<'_>) -> Option<bool> {
+        if self.entrance.is_over() {
+            return None;
+        }
+        let waker = context.waker().clone();
+        let mut state = self.entrance.enter();
+        if self.entrance.is_over() {
+            drop(state);
+            return None;
+        }
+        state.moved();
+        let (has_ended, left) = state.clock.wait(number, waker);
+        self.entrance.keep_awake(state.is_helper_idle);
+        drop(state);
+        drop(left);
+        Some(has_ended)
+    }
+
+    fn remove(&self, number: u64) {
+        let left = self.entrance.enter().clock.remove(number);
         drop(left);
     }
 }

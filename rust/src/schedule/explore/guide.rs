@@ -116,7 +116,7 @@ impl Guide {
 
     fn effect(&mut self, candidate: &Candidate, channels: &[Known]) -> Effect {
         match &candidate.what {
-            What::Time { .. } => Effect::None,
+            What::Time { .. } | What::Point { .. } => Effect::None,
             What::Poll if self.is_to_stand_at_send(&candidate.who) => Effect::First,
             What::Poll => self.effect_of_poll(&candidate.who, channels),
             What::Call {

@@ -2,6 +2,7 @@
 //! elsewhere.
 
 use super::Explorer;
+use super::stand::Stand;
 use super::state::ExplorerState;
 use std::panic::{self, AssertUnwindSafe};
 use std::sync::{MutexGuard, PoisonError};
@@ -11,14 +12,15 @@ use std::{io, mem, thread};
 /// How long nothing moves before a thread that runs on is looked for.
 const PATIENCE: Duration = Duration::from_millis(2);
 
-/// How long a thread runs, in time of a processor, before the others no longer wait for it.
-const PATIENCE_RUNNING: Duration = Duration::from_millis(12);
-
 /// How long the others wait for it at most, where the system doesn't say how long it runs.
 const PATIENCE_WAITING: Duration = Duration::from_secs(10);
 
 /// How long all wait forever before the run is said to hang.
 const HUNG_AFTER: Duration = Duration::from_millis(500);
+
+/// How often it is looked whether they do, and whether a timer ends.
+const BETWEEN_LOOKS: Duration = Duration::from_millis(10);
+const LEAST_BETWEEN_LOOKS: Duration = Duration::from_micros(200);
 
 /// Starts the thread. It ends when all calls pass.
 pub(super) fn start(explorer: &'static Explorer) -> io::Result<()> {
@@ -61,9 +63,14 @@ impl Helper {
                     thread::sleep(Duration::from_micros(50))
                 }
             } else {
+                state.keep_time();
+                if !state.wakers.is_empty() {
+                    continue;
+                }
                 self.look_for_hang(&mut state);
                 state.is_helper_idle = true;
-                let wait = Duration::from_millis(10);
+                let wait = state.clock.next().unwrap_or(BETWEEN_LOOKS);
+                let wait = wait.clamp(LEAST_BETWEEN_LOOKS, BETWEEN_LOOKS);
                 let woken = self.explorer.entrance.helper.wait_timeout(state, wait);
                 let (mut state, _) = woken.unwrap_or_else(PoisonError::into_inner);
                 state.is_helper_idle = false;
@@ -79,7 +86,9 @@ impl Helper {
             // One that panics leaves the others to be woken.
             let _ = panic::catch_unwind(AssertUnwindSafe(|| waker.wake()));
         }
-        self.explorer.entrance.lock().waking = 0;
+        let mut state = self.explorer.entrance.lock();
+        state.waking = 0;
+        state.new_rounds();
     }
 
     /// Lets one go if all others sleep, or if one runs on and on.
@@ -87,11 +96,17 @@ impl Helper {
         let before = state.schedule.steps.len();
         self.explorer.try_choose(state);
         let still = state.moved_at.elapsed();
-        if state.schedule.steps.len() > before || still < PATIENCE {
+        if state.schedule.steps.len() > before {
             return;
         }
-        if still > PATIENCE_WAITING || runs_on(state) {
-            let is_going = |stand: &super::state::Stand| stand.is_chosen && stand.call.is_some();
+        if state.clock.next().is_some() {
+            state.keep_time();
+        }
+        if still < PATIENCE {
+            return;
+        }
+        if still > PATIENCE_WAITING || state.runs_on().is_some() {
+            let is_going = |stand: &Stand| stand.is_chosen && stand.is_blocking();
             if !state.stands.iter().any(is_going) {
                 state.schedule.restless += 1;
                 self.explorer.choose(state, &[]);
@@ -104,24 +119,16 @@ impl Helper {
         let rest = state.rest();
         let is_quiet = !state.schedule.by_clock
             && rest.is_some_and(|rest| !rest.iter().any(super::threads::Sleeper::is_timed))
-            && !state.stands.iter().any(|stand| stand.call.is_some());
+            && state.clock.next().is_none()
+            && !state.stands.iter().any(Stand::is_blocking);
         match (is_quiet, self.quiet_since) {
             (false, _) => self.quiet_since = None,
             (true, None) => self.quiet_since = Some(Instant::now()),
             (true, Some(since)) if since.elapsed() < HUNG_AFTER => (),
-            (true, Some(_)) => super::run::end_hung(&mut state.schedule),
+            (true, Some(_)) => {
+                let places = mem::take(&mut state.wait_places);
+                super::run::end_hung(&mut state.schedule, &places)
+            }
         }
     }
-}
-
-/// Whether a thread that doesn't stand has run for long since something moved.
-fn runs_on(state: &mut ExplorerState) -> bool {
-    let blocked = state.stands.iter();
-    let blocked = blocked.filter(|stand| stand.call.is_some() && !stand.is_chosen);
-    let blocked: Vec<_> = blocked.map(|stand| stand.thread).collect();
-    let is_left_out = |thread| blocked.contains(&thread);
-    let moves = state.moves;
-    state
-        .threads
-        .does_one_run_on(moves, PATIENCE_RUNNING, is_left_out)
 }

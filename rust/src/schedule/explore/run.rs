@@ -1,8 +1,10 @@
 //! A run that is explored, in a process of its own, or one that follows a schedule.
 
+use super::explorer::Offered;
 use super::order::{Order, OrderKind};
 use super::random::hashed;
-use super::schedule::{RunEnd, Schedule};
+use super::schedule::{RunEnd, Schedule, WaitingTask};
+use super::state::WaitPlaces;
 use super::{Explorer, helper, pin};
 use crate::channels::actors::is_over_facade;
 use crate::channels::channel::Known;
@@ -10,9 +12,13 @@ use crate::channels::lock::lock;
 use crate::channels::recorder::{Recorder, Shared, is_any_of_none};
 use crate::channels::standard_error::say;
 use crate::channels::turns::{self, Explored};
+use crate::channels::whereabouts::PlaceNumber;
+use crate::run::sorting::sort_by_key;
 use crate::schedule::replay;
+use std::collections::HashMap;
 use std::path::{Path, PathBuf};
 use std::sync::{Arc, Mutex, OnceLock, Weak};
+use std::time::Duration;
 use std::{env, fs, io, process};
 
 /// By what order a run is made.
@@ -30,8 +36,14 @@ pub(crate) const TARGET: &str = "YOVANELUM_EXPLORE_TARGET";
 /// The number of the processor that it runs on.
 pub(crate) const PROCESSOR: &str = "YOVANELUM_EXPLORE_PROCESSOR";
 
+/// How many microseconds each step takes at least.
+pub(crate) const PAUSE: &str = "YOVANELUM_EXPLORE_PAUSE";
+
 /// Whether time may be chosen.
 const TIME: &str = "YOVANELUM_EXPLORE_TIME";
+
+/// Whether calls of tokio's own are chosen.
+pub(crate) const POINTS: &str = "YOVANELUM_EXPLORE_POINTS";
 
 /// The run of this process, if there is one.
 static RUN: OnceLock<ExploredRun> = OnceLock::new();
@@ -51,12 +63,24 @@ struct TestOfRun {
     report: TestReport,
 }
 
+/// What reports a test that hangs, in which these tasks wait.
+type ReportHung = dyn Fn(&[WaitingTask]) + Send;
+
 /// What a test says of itself.
 pub(crate) struct TestReport {
-    /// Writes its files where it hangs, and says who waits.
-    pub(crate) hung: Box<dyn Fn() + Send>,
+    /// Writes its files where it hangs, and says who waits, of these tasks too.
+    pub(crate) hung: Box<ReportHung>,
     /// Says why nothing may have been recorded.
     pub(crate) why_nothing: fn() -> String,
+    /// Says what a task waits for at a place, and where that is in the source.
+    pub(crate) name_place: fn(PlaceNumber) -> NamedPlace,
+}
+
+/// A place where a task waits.
+pub(crate) struct NamedPlace {
+    /// What it waits for, as `Mutex::lock`, if that is known.
+    pub(crate) what: Option<String>,
+    pub(crate) at: Option<(String, u32)>,
 }
 
 /// Whether the run of this process is one of a search, and not a replay.
@@ -74,7 +98,7 @@ pub(crate) fn begin() -> bool {
     };
     let order = Order::read(&text).unwrap_or_else(|| panic!("yovanelum: {ORDER} is `{text}`"));
     let processor = env::var(PROCESSOR).ok().and_then(|text| text.parse().ok());
-    let begun = start(&order, processor, |explorer| ExploredRun {
+    let begun = start(&order, processor, has_points(), |explorer| ExploredRun {
         explorer,
         schedule: env::var_os(SCHEDULE).map(PathBuf::from),
         followed: None,
@@ -97,14 +121,17 @@ pub(crate) fn is_of_session() -> bool {
 fn start(
     order: &Order,
     processor: Option<usize>,
+    points: bool,
     run: impl FnOnce(Arc<Explorer>) -> ExploredRun,
 ) -> io::Result<()> {
     pin::pin_to(processor.unwrap_or_default());
-    let explorer = Explorer::new(order, is_time_offered())?;
+    let time = is_time_offered();
+    let explorer = Explorer::new(order, Offered { time, points })?;
     let run = RUN.get_or_init(|| run(Arc::new(explorer)));
     turns::explore(Explored {
         turns: run.explorer.clone(),
         tasks: run.explorer.clone(),
+        timers: run.explorer.clone(),
     });
     replay::hold_polls();
     helper::start(&run.explorer)
@@ -116,15 +143,33 @@ fn start(
 ///
 /// Panics if the variable has another value than it may have.
 pub(crate) fn is_time_offered() -> bool {
-    match env::var(TIME)
-        .ok()
-        .filter(|text| !text.is_empty())
-        .as_deref()
-    {
-        None => true,
-        Some("never") => false,
-        Some(other) => panic!("yovanelum: {TIME} is `{other}`, and not `never`"),
+    !is_set_to(TIME, "never")
+}
+
+/// Whether calls of tokio's own are chosen.
+///
+/// # Panics
+///
+/// Panics if the variable has another value than it may have.
+pub(crate) fn has_points() -> bool {
+    is_set_to(POINTS, "all")
+}
+
+/// Whether a variable has the one value that it may have.
+fn is_set_to(variable: &str, value: &str) -> bool {
+    let text = env::var(variable).ok().filter(|text| !text.is_empty());
+    match text {
+        None => false,
+        Some(text) if text == value => true,
+        Some(other) => panic!("yovanelum: {variable} is `{other}`, and not `{value}`"),
     }
+}
+
+/// Returns how long each step takes at least.
+pub(super) fn pause() -> Duration {
+    let text = env::var(PAUSE).ok().filter(|_| is_of_session());
+    let microseconds = text.and_then(|text| text.parse().ok());
+    Duration::from_micros(microseconds.unwrap_or(0))
 }
 
 /// Follows the schedule beside this journal, if there is one of the same run. Returns `true` if
@@ -149,7 +194,7 @@ pub(crate) fn follow(journal: &Path) -> io::Result<bool> {
         has_timers: Order::read(&schedule.order).is_some_and(|order| order.has_timers),
     };
     let followed = Some((path, schedule.steps.len()));
-    start(&order, None, |explorer| ExploredRun {
+    start(&order, None, schedule.has_points, |explorer| ExploredRun {
         explorer,
         schedule: None,
         followed,
@@ -199,8 +244,11 @@ pub(crate) fn end(recorder: &Recorder, has_failed: bool, why_nothing: fn() -> St
     } else {
         RunEnd::Passed
     };
-    let mut schedule = run.explorer.end(end);
+    let (mut schedule, places) = run.explorer.end(end);
     schedule.note(&recorder.0, why_nothing);
+    if has_failed && run.schedule.is_some() {
+        run.name_places(&mut schedule, &places);
+    }
     run.write(&schedule);
     if let Some((path, steps)) = &run.followed {
         let name = path.file_name().unwrap_or_default().to_string_lossy();
@@ -234,13 +282,46 @@ impl Schedule {
     /// Adds what is known of the test's recorder: the names of its channels, or why it has none.
     fn note(&mut self, recorder: &Shared, why_nothing: fn() -> String) {
         self.channels = recorder.channel_names();
-        // Under the patch, polls are ordered also where the test has none of the two channels.
-        let is_for_polls = is_over_facade() && !self.steps.is_empty() && !is_any_of_none();
-        self.nothing = (recorder.has_nothing() && !is_for_polls).then(why_nothing);
+        self.was_busy &= !is_over_facade();
+        // Polls are ordered also where the test has none of the two channels. Without the patch
+        // it may have meant to record them.
+        let is_for_polls = !self.steps.is_empty() && !is_any_of_none();
+        let is_meant = is_for_polls && is_over_facade();
+        self.nothing = (recorder.has_nothing() && !is_meant).then(why_nothing);
+        self.polls_alone = self.nothing.is_some() && is_for_polls;
     }
 }
 
 impl ExploredRun {
+    /// Names the places where tasks wait, and where they waited. That reads the symbols of the
+    /// program, so it is only for a run that fails.
+    fn name_places(&self, schedule: &mut Schedule, places: &WaitPlaces) {
+        let test = lock(&self.test);
+        let Some(name_place) = test.as_ref().map(|test| test.report.name_place) else {
+            return;
+        };
+        drop(test);
+        let mut known: HashMap<PlaceNumber, NamedPlace> = HashMap::new();
+        let mut named = |place: &PlaceNumber| {
+            let named = known.entry(*place).or_insert_with(|| name_place(*place));
+            (named.what.clone(), named.at.clone())
+        };
+        for (step, place) in &places.of_steps {
+            if let Some(step) = schedule.steps.get_mut(*step) {
+                (step.waited_for, step.at) = named(place);
+            }
+        }
+        for (who, place) in &places.now {
+            let (what, at) = named(place);
+            schedule.waiting.extend(what.map(|what| WaitingTask {
+                what,
+                at,
+                who: who.clone(),
+            }));
+        }
+        sort_by_key(&mut schedule.waiting, |waiting| waiting.who.clone());
+    }
+
     fn write(&self, schedule: &Schedule) {
         let written = self
             .schedule
@@ -253,14 +334,15 @@ impl ExploredRun {
 }
 
 /// Ends the process, whose threads all wait forever: writes its files, and says who waits.
-pub(super) fn end_hung(schedule: &mut Schedule) -> ! {
+pub(super) fn end_hung(schedule: &mut Schedule, places: &WaitPlaces) -> ! {
     schedule.end = RunEnd::Hung;
     if let Some(run) = RUN.get() {
+        run.name_places(schedule, places);
         if let Some(test) = &*lock(&run.test) {
             if let Some(recorder) = test.recorder.upgrade() {
                 schedule.note(&recorder, test.report.why_nothing);
             }
-            (test.report.hung)();
+            (test.report.hung)(&schedule.waiting);
         }
         run.write(schedule);
         if let Some((path, steps)) = &run.followed {

@@ -17,8 +17,10 @@ pub(crate) struct Step {
     pub(crate) count: u32,
     pub(crate) turn: Turn,
     pub(crate) what: What,
-    /// Where the call is made in the source.
+    /// Where the call is made in the source, or where the task waited that is polled.
     pub(crate) at: Option<(String, u32)>,
+    /// What the task waited for that is polled, as `Mutex::lock`.
+    pub(crate) waited_for: Option<String>,
     pub(crate) who: Arc<str>,
 }
 
@@ -46,6 +48,8 @@ pub(crate) enum What {
         channel: u32,
         handle: u32,
     },
+    /// A call of a type of tokio's own, as `Mutex::lock`.
+    Point { called: String },
 }
 
 /// How a run has ended, as far as its own process knows.
@@ -64,6 +68,10 @@ pub(crate) struct Schedule {
     pub(crate) end: RunEnd,
     /// Whether the runtime of the test was seen to wait for a timer.
     pub(crate) has_timers: bool,
+    /// Whether it was kept busy while tasks were held, so that nobody saw whether it waits for one.
+    pub(crate) was_busy: bool,
+    /// How many milliseconds timers of the machine's clock went on while tasks were held.
+    pub(crate) lost: u32,
     /// How many choices were made while a thread ran.
     pub(crate) restless: u32,
     /// How many calls were made by callers without a name.
@@ -72,8 +80,12 @@ pub(crate) struct Schedule {
     pub(crate) was_too_long: bool,
     /// Whether threads were taken to sleep by a clock.
     pub(crate) by_clock: bool,
+    /// Whether calls of tokio's own were chosen.
+    pub(crate) has_points: bool,
     /// The likely cause, if nothing was recorded.
     pub(crate) nothing: Option<String>,
+    /// Whether polls of named tasks were chosen though nothing was recorded.
+    pub(crate) polls_alone: bool,
     /// The number of the first step that isn't that of the schedule which was followed.
     pub(crate) diverged: Option<u32>,
     /// The hash of the journal beside it.
@@ -81,6 +93,18 @@ pub(crate) struct Schedule {
     /// The names of channels by number.
     pub(crate) channels: Vec<(u32, String)>,
     pub(crate) steps: Vec<Step>,
+    /// Where tasks wait at the end of a run that fails.
+    pub(crate) waiting: Vec<WaitingTask>,
+}
+
+/// A task that waits.
+#[derive(Clone, Debug, PartialEq, Eq)]
+pub(crate) struct WaitingTask {
+    /// What it waits for, as `Mutex::lock`.
+    pub(crate) what: String,
+    /// Where that is in the source.
+    pub(crate) at: Option<(String, u32)>,
+    pub(crate) who: Arc<str>,
 }
 
 impl Schedule {
@@ -89,15 +113,20 @@ impl Schedule {
             order,
             end: RunEnd::Passed,
             has_timers: false,
+            was_busy: false,
+            lost: 0,
             restless: 0,
             unnamed: 0,
             was_too_long: false,
             by_clock: false,
+            has_points: false,
             nothing: None,
+            polls_alone: false,
             diverged: None,
             journal: None,
             channels: Vec::new(),
             steps: Vec::new(),
+            waiting: Vec::new(),
         }
     }
 
@@ -131,11 +160,17 @@ impl Schedule {
         let mut text = format!("{FIRST_LINE}\norder {}\nend {end}\n", self.order);
         let marks = [
             ("timers", self.has_timers),
+            ("busy", self.was_busy),
             ("too-long", self.was_too_long),
             ("by-clock", self.by_clock),
+            ("points", self.has_points),
+            ("polls-alone", self.polls_alone),
         ];
         for (mark, _) in marks.iter().filter(|(_, is_set)| *is_set) {
             let _ = writeln!(text, "{mark}");
+        }
+        if self.lost > 0 {
+            let _ = writeln!(text, "lost {}", self.lost);
         }
         let _ = write!(
             text,
@@ -153,6 +188,10 @@ impl Schedule {
         }
         for (number, name) in &self.channels {
             let _ = writeln!(text, "channel {number} {}", one_line(name));
+        }
+        for waiting in &self.waiting {
+            let (what, at) = (one_word(&waiting.what), place(waiting.at.as_ref()));
+            let _ = writeln!(text, "waits {what} {at} {}", one_line(&waiting.who));
         }
         let _ = writeln!(text, "steps {}", self.steps.len());
         self.steps.iter().for_each(|step| step.write(&mut text));
@@ -210,13 +249,25 @@ impl Schedule {
                 }
             }
             "timers" => self.has_timers = true,
+            "busy" => self.was_busy = true,
+            "lost" => self.lost = rest.parse().ok()?,
             "too-long" => self.was_too_long = true,
             "by-clock" => self.by_clock = true,
+            "points" => self.has_points = true,
+            "polls-alone" => self.polls_alone = true,
             "restless" => self.restless = rest.parse().ok()?,
             "unnamed" => self.unnamed = rest.parse().ok()?,
             "nothing" => self.nothing = Some(rest.to_string()),
             "parted" => self.diverged = Some(rest.parse().ok()?),
             "journal" => self.journal = Some(u64::from_str_radix(rest, 16).ok()?),
+            "waits" => {
+                let mut words = rest.splitn(3, ' ');
+                self.waiting.push(WaitingTask {
+                    what: words.next()?.replace("%20", " "),
+                    at: read_place(words.next()?)?,
+                    who: words.next()?.into(),
+                });
+            }
             "channel" => {
                 let (number, name) = rest.split_once(' ')?;
                 self.channels.push((number.parse().ok()?, name.to_string()));
@@ -251,19 +302,20 @@ impl Step {
         };
         let _ = write!(text, "{} {} {mark} ", self.chosen, self.count);
         let _ = match &self.what {
-            What::Poll => write!(text, "poll -"),
+            What::Poll => {
+                let waited_for = self.waited_for.as_deref().unwrap_or("-");
+                write!(text, "poll {}", one_word(waited_for))
+            }
             What::Time { ready } => write!(text, "time {}", one_word(ready)),
             What::Call {
                 word,
                 channel,
                 handle,
             } => write!(text, "{word} {channel}.{handle}"),
+            What::Point { called } => write!(text, "point {}", one_word(called)),
         };
-        let _ = match &self.at {
-            Some((file, line)) => write!(text, " {line}:{}", one_word(file)),
-            None => write!(text, " -"),
-        };
-        let _ = writeln!(text, " {}", one_line(&self.who));
+        let at = place(self.at.as_ref());
+        let _ = writeln!(text, " {at} {}", one_line(&self.who));
     }
 
     fn read(line: &str) -> Option<Step> {
@@ -276,8 +328,16 @@ impl Step {
             "!" => Turn::Switch,
             _ => return None,
         };
+        let mut waited_for = None;
         let what = match (words.next()?, words.next()?) {
             ("poll", "-") => What::Poll,
+            ("poll", awaited) => {
+                waited_for = Some(awaited.replace("%20", " "));
+                What::Poll
+            }
+            ("point", called) => What::Point {
+                called: called.replace("%20", " "),
+            },
             ("time", ready) => What::Time {
                 ready: ready.replace("%20", " "),
             },
@@ -290,13 +350,7 @@ impl Step {
                 }
             }
         };
-        let at = match words.next()? {
-            "-" => None,
-            at => {
-                let (line, file) = at.split_once(':')?;
-                Some((file.replace("%20", " "), line.parse().ok()?))
-            }
-        };
+        let at = read_place(words.next()?)?;
         let who = words.next()?.into();
         Some(Step {
             chosen,
@@ -304,9 +358,27 @@ impl Step {
             turn,
             what,
             at,
+            waited_for,
             who,
         })
     }
+}
+
+/// Returns the word for a place in the source.
+fn place(at: Option<&(String, u32)>) -> String {
+    match at {
+        Some((file, line)) => format!("{line}:{}", one_word(file)),
+        None => "-".to_string(),
+    }
+}
+
+/// Reads it.
+fn read_place(word: &str) -> Option<Option<(String, u32)>> {
+    if word == "-" {
+        return Some(None);
+    }
+    let (line, file) = word.split_once(':')?;
+    Some(Some((file.replace("%20", " "), line.parse().ok()?)))
 }
 
 fn one_line(text: &str) -> String {
@@ -328,6 +400,7 @@ mod tests {
             turn: if chosen > 0 { Turn::Switch } else { Turn::Same },
             what,
             at,
+            waited_for: None,
             who: who.into(),
         };
         let send = What::Call {
@@ -339,29 +412,58 @@ mod tests {
             ready: "a reader".to_string(),
         };
         let mut schedule = Schedule::new("s1.1".to_string());
-        schedule.has_timers = true;
+        (schedule.has_timers, schedule.was_busy, schedule.lost) = (true, true, 12);
         schedule.end = RunEnd::Hung;
         schedule.nothing = Some("no channel".to_string());
         schedule.diverged = Some(4);
         schedule.journal = Some(0xab);
         schedule.channels = vec![(3, "prices of today".to_string())];
+        schedule.waiting = vec![WaitingTask {
+            what: "Semaphore::acquire".to_string(),
+            at: Some(("src/a.rs".to_string(), 7)),
+            who: "bob 2".into(),
+        }];
         schedule.steps = vec![
             step(0, "a reader", What::Poll, None),
             step(1, "admin", send, Some(("tests/my shop.rs".to_string(), 7))),
             step(0, "(time)", time, None),
+            step(0, "ann", What::Poll, Some(("src/a.rs".to_string(), 9))),
         ];
+        schedule.steps[3].waited_for = Some("Mutex::lock".to_string());
         schedule
     }
 
     #[test]
     fn a_file_has_the_whole_schedule() {
-        let wanted = "yovanelum schedule 1\norder s1.1\nend hung\ntimers\nrestless 0\nunnamed 0\nnothing no channel\nparted 4\n\
-            journal 00000000000000ab\nchannel 3 prices of today\nsteps 3\n0 2 = poll - - a reader\n\
-            1 2 ! send 3.0 7:tests/my%20shop.rs admin\n0 2 = time a%20reader - (time)\n";
+        let wanted = "yovanelum schedule 1\norder s1.1\nend hung\ntimers\nbusy\nlost 12\nrestless 0\nunnamed 0\nnothing no channel\nparted 4\n\
+            journal 00000000000000ab\nchannel 3 prices of today\nwaits Semaphore::acquire 7:src/a.rs bob 2\nsteps 4\n0 2 = poll - - a reader\n\
+            1 2 ! send 3.0 7:tests/my%20shop.rs admin\n0 2 = time a%20reader - (time)\n\
+            0 2 = poll Mutex::lock 9:src/a.rs ann\n";
         assert_eq!(schedule().text(), wanted);
         assert_eq!(Schedule::read(wanted), Ok(schedule()));
-        assert_eq!((schedule().switches(), schedule().choices()), (1, 3));
+        assert_eq!((schedule().switches(), schedule().choices()), (1, 4));
         assert_eq!(schedule().other_steps(), [(1, 1)]);
+    }
+
+    #[test]
+    fn calls_of_tokio_s_own_are_steps_of_a_file() {
+        let mut schedule = Schedule::new("s".to_string());
+        schedule.has_points = true;
+        schedule.steps = vec![Step {
+            chosen: 0,
+            count: 1,
+            turn: Turn::Free,
+            what: What::Point {
+                called: "Mutex::lock".to_string(),
+            },
+            at: Some(("src/a.rs".to_string(), 7)),
+            waited_for: None,
+            who: "ann".into(),
+        }];
+        let wanted = "yovanelum schedule 1\norder s\nend passed\npoints\nrestless 0\nunnamed 0\nsteps 1\n\
+            0 1 . point Mutex::lock 7:src/a.rs ann\n";
+        assert_eq!(schedule.text(), wanted);
+        assert_eq!(Schedule::read(wanted), Ok(schedule));
     }
 
     #[test]
@@ -375,7 +477,7 @@ mod tests {
         );
         assert_eq!(
             fault(&text.replace("1 2 ! send", "1 2 send")),
-            "line 13: `1 2 send 3.0 7:tests/my%20shop.rs admin`"
+            "line 16: `1 2 send 3.0 7:tests/my%20shop.rs admin`"
         );
         let (cut, _) = text.rsplit_once("0 2 =").unwrap();
         assert_eq!(fault(cut), "it ends too early");

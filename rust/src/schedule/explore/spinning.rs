@@ -1,6 +1,7 @@
 //! Callers that only look, again and again, while nothing changes. They are set aside until a
 //! channel of theirs does.
 
+use super::stand::ArrivingPoint;
 use crate::channels::channel::CallSite;
 use crate::channels::turns::ArrivingCall;
 use crate::run::operation::{CallSet, Operation};
@@ -11,6 +12,9 @@ use std::sync::Arc;
 /// How often a caller makes the same look before it is set aside.
 const SAME_LOOKS: u32 = 2;
 
+/// The same of calls of tokio's own, of which nobody says what they return.
+const SAME_POINTS: u32 = 8;
+
 /// How many looks of a caller are known apart.
 const LOOKS_KEPT: usize = 16;
 
@@ -19,14 +23,33 @@ const LOOKS_KEPT: usize = 16;
 pub(super) struct SpinDetector {
     /// How often each channel was changed.
     versions: HashMap<u32, u64>,
+    /// How often anything was changed that tokio's own calls look at.
+    version_of_points: u64,
     by_caller: HashMap<Arc<str>, Vec<RepeatedLook>>,
 }
 
 /// A look: which call it is, and what it has seen.
 struct RepeatedLook {
-    call: CallInSource,
+    look: LookedBy,
     version: u64,
     times: u32,
+}
+
+/// What a caller looks by, at one place in the source.
+#[derive(Clone, Copy, PartialEq, Eq)]
+pub(super) enum LookedBy {
+    Call(CallInSource),
+    Point(ArrivingPoint),
+}
+
+impl LookedBy {
+    /// How often it is made before its caller is set aside.
+    fn most(self) -> u32 {
+        match self {
+            LookedBy::Call(_) => SAME_LOOKS,
+            LookedBy::Point(_) => SAME_POINTS,
+        }
+    }
 }
 
 /// A call that is made at one place in the source, by one handle.
@@ -82,18 +105,33 @@ impl SpinDetector {
         if effect == EffectOnOthers::Changes {
             *self.versions.entry(call.channel).or_default() += 1;
         }
+        self.notes(who, LookedBy::Call(call), effect);
+    }
+
+    /// Notes that a caller makes a call of tokio's own.
+    pub(super) fn passes(&mut self, who: &Arc<str>, point: ArrivingPoint) {
+        let effect = if point.is_look() {
+            EffectOnOthers::Look
+        } else {
+            self.version_of_points += 1;
+            EffectOnOthers::Changes
+        };
+        self.notes(who, LookedBy::Point(point), effect);
+    }
+
+    fn notes(&mut self, who: &Arc<str>, look: LookedBy, effect: EffectOnOthers) {
         if effect != EffectOnOthers::Look {
             self.by_caller.remove(who);
             return;
         }
-        let version = self.version(call.channel);
+        let version = self.version(look);
         let looks = self.by_caller.entry(who.clone()).or_default();
-        let found = looks.iter().position(|look| look.call == call);
+        let found = looks.iter().position(|other| other.look == look);
         match found {
             Some(index) if looks[index].version == version => looks[index].times += 1,
             Some(index) => (looks[index].version, looks[index].times) = (version, 1),
             None if looks.len() < LOOKS_KEPT => looks.push(RepeatedLook {
-                call,
+                look,
                 version,
                 times: 1,
             }),
@@ -102,22 +140,34 @@ impl SpinDetector {
         }
     }
 
-    fn version(&self, channel: u32) -> u64 {
-        self.versions.get(&channel).copied().unwrap_or_default()
+    fn version(&self, look: LookedBy) -> u64 {
+        match look {
+            LookedBy::Call(call) => self
+                .versions
+                .get(&call.channel)
+                .copied()
+                .unwrap_or_default(),
+            LookedBy::Point(_) => self.version_of_points,
+        }
     }
 
     /// Whether a caller looks again and again, at what hasn't changed since. If it has come with a
     /// call, this is that call.
-    pub(super) fn is_idle(&self, who: &Arc<str>, call: Option<CallInSource>) -> bool {
+    pub(super) fn is_idle(&self, who: &Arc<str>, call: Option<LookedBy>) -> bool {
         let Some(looks) = self.by_caller.get(who) else {
             return false;
         };
         let mut is_repeated = false;
-        for look in looks {
-            if look.version != self.version(look.call.channel) {
+        for RepeatedLook {
+            look,
+            version,
+            times,
+        } in looks
+        {
+            if *version != self.version(*look) {
                 return false;
             }
-            is_repeated |= look.times >= SAME_LOOKS && call.is_none_or(|call| call == look.call);
+            is_repeated |= *times >= look.most() && call.is_none_or(|call| call == *look);
         }
         is_repeated
     }
@@ -142,17 +192,25 @@ mod tests {
         let (try_recv, borrow) = (call(0, Operation::TryRecv), call(1, Operation::Borrow));
         let mut looks = SpinDetector::default();
         for times in 0..2 {
-            assert!(!looks.is_idle(&poller, Some(try_recv)), "{times}");
+            assert!(
+                !looks.is_idle(&poller, Some(LookedBy::Call(try_recv))),
+                "{times}"
+            );
             looks.goes(&poller, try_recv, false);
             looks.goes(&poller, borrow, false);
         }
-        assert!(looks.is_idle(&poller, Some(try_recv)) && looks.is_idle(&poller, None));
+        assert!(
+            looks.is_idle(&poller, Some(LookedBy::Call(try_recv))) && looks.is_idle(&poller, None)
+        );
         // Another call may find something.
-        assert!(!looks.is_idle(&poller, Some(call(1, Operation::HasChanged))));
+        assert!(!looks.is_idle(
+            &poller,
+            Some(LookedBy::Call(call(1, Operation::HasChanged)))
+        ));
         looks.goes(&sender, call(2, Operation::Send), false);
-        assert!(looks.is_idle(&poller, Some(try_recv)));
+        assert!(looks.is_idle(&poller, Some(LookedBy::Call(try_recv))));
         looks.goes(&sender, call(1, Operation::Send), false);
-        assert!(!looks.is_idle(&poller, Some(try_recv)));
+        assert!(!looks.is_idle(&poller, Some(LookedBy::Call(try_recv))));
     }
 
     #[test]
@@ -162,7 +220,41 @@ mod tests {
         let mut looks = SpinDetector::default();
         for _ in 0..5 {
             looks.goes(&poller, try_recv, true);
-            assert!(!looks.is_idle(&poller, Some(try_recv)));
+            assert!(!looks.is_idle(&poller, Some(LookedBy::Call(try_recv))));
+        }
+    }
+
+    #[test]
+    fn a_caller_that_tries_in_vain_is_idle_until_another_call_of_tokio_s_own() {
+        let (poller, holder) = ("poller".into(), "holder".into());
+        let point = |called| ArrivingPoint { called, at: None };
+        let try_lock = point("Mutex::try_lock");
+        let mut looks = SpinDetector::default();
+        for times in 0..8 {
+            assert!(!looks.is_idle(&poller, None), "{times}");
+            looks.passes(&poller, try_lock);
+        }
+        assert!(looks.is_idle(&poller, Some(LookedBy::Point(try_lock))));
+        assert!(!looks.is_idle(&poller, Some(LookedBy::Point(point("Mutex::lock")))));
+        looks.passes(&holder, point("Mutex::try_lock"));
+        assert!(looks.is_idle(&poller, None));
+        looks.passes(&holder, point("MutexGuard::drop"));
+        assert!(!looks.is_idle(&poller, None));
+    }
+
+    #[test]
+    fn a_caller_that_sends_again_and_again_is_not_idle() {
+        let sender = "sender".into();
+        let mut looks = SpinDetector::default();
+        for _ in 0..20 {
+            looks.passes(
+                &sender,
+                ArrivingPoint {
+                    called: "Sender::try_send",
+                    at: None,
+                },
+            );
+            assert!(!looks.is_idle(&sender, None));
         }
     }
 }

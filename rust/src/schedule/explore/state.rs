@@ -1,14 +1,20 @@
 //! Who stands before the gate, and how the next one is chosen. The explorer locks it.
 
+mod time;
+
 use super::chooser::{Candidate, Chooser};
+use super::clock::TestClock;
+use super::explorer::Offered;
 use super::order::Order;
+use super::run::pause;
 use super::schedule::{Schedule, Step, Turn, What};
-use super::spinning::{CallInSource, SpinDetector};
-use super::threads::{Asked, SOON, Sleeper, ThreadId, Threads, this_thread};
-use crate::channels::turns::ArrivingCall;
+use super::spinning::SpinDetector;
+use super::stand::{Arrival, Stand};
+use super::threads::{Asked, Sleeper, ThreadId, Threads, this_thread};
+use crate::channels::whereabouts::PlaceNumber;
 use crate::run::sorting::sort_by;
 use std::collections::HashMap;
-use std::sync::{Arc, Condvar};
+use std::sync::Arc;
 use std::task::Waker;
 use std::thread;
 use std::time::{Duration, Instant};
@@ -23,30 +29,14 @@ const ROUNDS: usize = 128;
 /// The name of time where it is chosen. No caller is first by name before it.
 const TIME: &str = "(time)";
 
-/// One who stands before the gate.
-pub(super) struct Stand {
-    pub(super) who: Arc<str>,
-    /// `None` for the poll of a task.
-    pub(super) call: Option<ArrivingCall>,
-    pub(super) thread: ThreadId,
-    pub(super) number: u64,
-    pub(super) is_chosen: bool,
-    /// What its thread waits for, where a call blocks it.
-    pub(super) own: Arc<Condvar>,
-    /// What wakes its task. A task without one wakes itself at once, so that its runtime isn't
-    /// idle.
-    pub(super) waker: Option<Waker>,
-    /// How often it has come round since something else happened on its thread.
-    pub(super) rounds: usize,
-    pub(super) spins: bool,
-}
-
 pub(super) struct ExplorerState {
     pub(super) stands: Vec<Stand>,
     pub(super) chooser: Chooser,
     pub(super) schedule: Schedule,
     pub(super) looks: SpinDetector,
     pub(super) threads: Threads,
+    /// The clock by which the timers of the package end that stands for tokio.
+    pub(super) clock: TestClock,
     /// What the helper is to wake, and how many it wakes now.
     pub(super) wakers: Vec<Waker>,
     pub(super) waking: usize,
@@ -64,22 +54,39 @@ pub(super) struct ExplorerState {
     went_at: HashMap<Arc<str>, usize>,
     /// Timed waits that time was let pass for in vain.
     vain: Vec<Sleeper>,
+    began: Instant,
+    /// Whether a thread was seen to wait for the machine's clock.
+    has_sleepers: bool,
+    /// How long each step takes at least.
+    pause: Duration,
     next_number: u64,
     /// How many have each name.
     names: HashMap<String, u32>,
+    pub(super) wait_places: WaitPlaces,
+}
+
+/// Where tasks wait.
+#[derive(Clone, Default)]
+pub(super) struct WaitPlaces {
+    /// Where each one waits that is alive.
+    pub(super) now: HashMap<Arc<str>, PlaceNumber>,
+    /// Where the one waited that was polled at this step, or where its call of tokio's own is made.
+    pub(super) of_steps: Vec<(usize, PlaceNumber)>,
 }
 
 impl ExplorerState {
-    pub(super) fn new(order: &Order, chooser: Chooser, is_time_offered: bool) -> ExplorerState {
+    pub(super) fn new(order: &Order, chooser: Chooser, offered: Offered) -> ExplorerState {
         let threads = Threads::of_this_process();
         let mut schedule = Schedule::new(order.to_string());
         schedule.by_clock = threads.is_by_clock();
+        schedule.has_points = offered.points;
         ExplorerState {
             stands: Vec::new(),
             chooser,
             schedule,
             looks: SpinDetector::default(),
             threads,
+            clock: TestClock::default(),
             wakers: Vec::new(),
             waking: 0,
             is_helper_idle: false,
@@ -87,12 +94,16 @@ impl ExplorerState {
             moved_at: Instant::now(),
             main: this_thread(),
             is_let_idle: order.has_timers,
-            is_time_offered,
+            is_time_offered: offered.time,
             last: None,
             went_at: HashMap::new(),
             vain: Vec::new(),
+            began: Instant::now(),
+            has_sleepers: false,
+            pause: pause(),
             next_number: 0,
             names: HashMap::new(),
+            wait_places: WaitPlaces::default(),
         }
     }
 
@@ -112,21 +123,23 @@ impl ExplorerState {
     }
 
     /// Adds one who stands from now on, on this thread.
-    pub(super) fn add(&mut self, who: Arc<str>, call: Option<ArrivingCall>) -> &mut Stand {
+    pub(super) fn add(&mut self, who: Arc<str>, arrival: Arrival) -> &mut Stand {
         let thread = this_thread();
         self.new_round(thread);
+        let spins = thread == self.main && !self.is_let_idle;
+        self.schedule.was_busy |= spins && matches!(arrival, Arrival::Poll);
         let number = self.next_number;
         self.next_number += 1;
         self.stands.push(Stand {
             who,
-            call,
+            arrival,
             thread,
             number,
             is_chosen: false,
             own: Arc::default(),
             waker: None,
             rounds: 0,
-            spins: thread == self.main && !self.is_let_idle,
+            spins,
         });
         let last = self.stands.len() - 1;
         &mut self.stands[last]
@@ -139,10 +152,16 @@ impl ExplorerState {
             .for_each(|stand| stand.rounds = 0);
     }
 
+    /// Begins to count rounds again on all threads, since something was woken. That may be the
+    /// future on which a runtime blocks, and it is polled once in many rounds.
+    pub(super) fn new_rounds(&mut self) {
+        self.stands.iter_mut().for_each(|stand| stand.rounds = 0);
+    }
+
     /// Returns the index of the poll of this task.
     pub(super) fn poll_of(&self, who: &Arc<str>) -> Option<usize> {
         let mut stands = self.stands.iter();
-        stands.position(|stand| stand.call.is_none() && stand.who == *who)
+        stands.position(|stand| stand.is_poll() && stand.who == *who)
     }
 
     /// Takes the stand of a poll out, since it goes on. Returns its waker.
@@ -154,7 +173,7 @@ impl ExplorerState {
 
     fn is_blocked(&self, thread: ThreadId) -> bool {
         let mut stands = self.stands.iter();
-        stands.any(|stand| stand.call.is_some() && stand.thread == thread)
+        stands.any(|stand| stand.is_blocking() && stand.thread == thread)
     }
 
     /// Whether a thread polls nothing but what is held back, again and again.
@@ -162,7 +181,7 @@ impl ExplorerState {
         let here = || self.stands.iter().filter(|stand| stand.thread == thread);
         let is_held = |stand: &Stand| stand.spins && !stand.is_chosen && stand.rounds >= 2;
         let rounds: usize = here().map(|stand| stand.rounds).sum();
-        rounds >= ROUNDS && here().all(|stand| stand.call.is_none() && is_held(stand))
+        rounds >= ROUNDS && here().all(|stand| stand.is_poll() && is_held(stand))
     }
 
     /// Whether one was chosen that has yet to go on.
@@ -171,7 +190,7 @@ impl ExplorerState {
             return true;
         }
         let chosen = self.stands.iter().filter(|stand| stand.is_chosen);
-        let spinning: Vec<ThreadId> = if chosen.clone().any(|stand| stand.call.is_some()) {
+        let spinning: Vec<ThreadId> = if chosen.clone().any(Stand::is_blocking) {
             return true;
         } else {
             chosen
@@ -209,10 +228,11 @@ impl ExplorerState {
         if first != second {
             return None;
         }
+        self.has_sleepers |= first.iter().any(Sleeper::is_timed);
         let is_timer = |sleeper: &Sleeper| sleeper.thread == self.main && sleeper.is_timed();
         let has_polled = || {
             let mut stands = self.stands.iter();
-            self.schedule.has_timers || stands.any(|stand| stand.call.is_none())
+            self.schedule.has_timers || stands.any(Stand::is_poll)
         };
         if first.iter().any(is_timer) && (has_polled() || self.has_gone_by_poll()) {
             self.schedule.has_timers = true;
@@ -230,7 +250,7 @@ impl ExplorerState {
         let this = this_thread();
         let mut asked = HashMap::new();
         for stand in &self.stands {
-            let (is_blocked, thread) = (stand.call.is_some(), stand.thread);
+            let (is_blocked, thread) = (stand.is_blocking(), stand.thread);
             if is_blocked && !stand.is_chosen {
                 asked.insert(thread, Asked::Nothing);
             } else if !is_blocked && stand.spins && !asked.contains_key(&thread) {
@@ -258,6 +278,9 @@ impl ExplorerState {
         if candidates.is_empty() {
             return;
         }
+        if !self.pause.is_zero() {
+            thread::sleep(self.pause);
+        }
         let chosen = self.chooser.choose(&candidates);
         let last = self.last.as_ref();
         let could_go_on = candidates.iter().any(|other| Some(&other.who) == last);
@@ -274,8 +297,20 @@ impl ExplorerState {
             },
             what: what.clone(),
             at: self.place_of(*number),
+            waited_for: None,
             who: who.clone(),
         });
+        let place = match what {
+            What::Poll => self.wait_places.now.remove(who),
+            _ => self.standing(*number).and_then(Stand::place),
+        };
+        if let Some(Arrival::Point(point)) = self.standing(*number).map(|stand| &stand.arrival) {
+            let point = *point;
+            self.looks.passes(who, point);
+        }
+        let step = self.schedule.steps.len() - 1;
+        let of_steps = &mut self.wait_places.of_steps;
+        of_steps.extend(place.map(|place| (step, place)));
         self.moved();
         if let What::Time { .. } = what {
             // Time is the switch, and whoever it wakes may go on.
@@ -288,10 +323,12 @@ impl ExplorerState {
         self.let_go(number);
     }
 
+    fn standing(&self, number: u64) -> Option<&Stand> {
+        self.stands.iter().find(|stand| stand.number == number)
+    }
+
     fn place_of(&self, number: u64) -> Option<(String, u32)> {
-        let stand = self.stands.iter().find(|stand| stand.number == number)?;
-        let at = stand.call?.called_at?;
-        Some((at.file().to_string(), at.line()))
+        self.standing(number)?.called_at()
     }
 
     fn let_go(&mut self, number: u64) {
@@ -310,7 +347,7 @@ impl ExplorerState {
     fn candidates(&self, rest: &[Sleeper]) -> Vec<Candidate> {
         let is_stuck = |stand: &Stand| {
             let sleeps = || rest.iter().any(|sleeper| sleeper.thread == stand.thread);
-            stand.call.is_none() && (self.is_blocked(stand.thread) || stand.spins && sleeps())
+            stand.is_poll() && (self.is_blocked(stand.thread) || stand.spins && sleeps())
         };
         let open = self.stands.iter();
         let open = open.filter(|stand| !stand.is_chosen && !is_stuck(stand));
@@ -318,15 +355,12 @@ impl ExplorerState {
         if standing.is_empty() {
             return Vec::new();
         }
-        let is_idle = |stand: &Stand| {
-            let call = stand.call.as_ref().map(CallInSource::of);
-            self.looks.is_idle(&stand.who, call)
-        };
+        let is_idle = |stand: &Stand| self.looks.is_idle(&stand.who, stand.look());
         let is_any_busy = standing.iter().any(|stand| !is_idle(stand));
         if is_any_busy {
             standing.retain(|stand| !is_idle(stand));
         }
-        let mut all: Vec<Candidate> = standing.into_iter().map(candidate).collect();
+        let mut all: Vec<Candidate> = standing.into_iter().map(Stand::candidate).collect();
         sort_by(&mut all, |a, b| (&a.who, a.number).cmp(&(&b.who, b.number)));
         let is_time_near = self.is_time_near(rest);
         let first = if is_any_busy {
@@ -352,26 +386,6 @@ impl ExplorerState {
         all
     }
 
-    fn is_time_near(&self, rest: &[Sleeper]) -> bool {
-        let is_near = |sleeper: &Sleeper| !self.vain.contains(sleeper) && sleeper.is_soon();
-        self.is_time_offered && rest.iter().any(is_near)
-    }
-
-    /// Waits until one of those who sleep does something else. A wait that doesn't end is no longer
-    /// offered.
-    fn let_time_pass(&mut self, rest: &[Sleeper]) {
-        let began = Instant::now();
-        while began.elapsed() < SOON + SOON / 5 {
-            thread::sleep(Duration::from_micros(50));
-            match self.look() {
-                Some(now) if now == rest => (),
-                _ => return,
-            }
-        }
-        let timed = rest.iter().filter(|sleeper| sleeper.is_timed());
-        self.vain.extend(timed);
-    }
-
     /// Whether the run has had so many steps that it goes on without an order.
     pub(super) fn is_too_long(&mut self) -> bool {
         self.schedule.was_too_long = self.schedule.steps.len() >= MOST_STEPS;
@@ -387,21 +401,5 @@ fn ready(standing: &[Candidate]) -> String {
     match standing.len().saturating_sub(NAMED) {
         0 => named.join(", "),
         more => format!("{} and {more} more", named.join(", ")),
-    }
-}
-
-fn candidate(stand: &Stand) -> Candidate {
-    let what = match &stand.call {
-        None => What::Poll,
-        Some(call) => What::Call {
-            word: call.word.text().to_string(),
-            channel: call.channel,
-            handle: call.handle,
-        },
-    };
-    Candidate {
-        who: stand.who.clone(),
-        what,
-        number: stand.number,
     }
 }

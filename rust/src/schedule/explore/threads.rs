@@ -6,6 +6,7 @@ use super::system_call::{self, Doing, Timer};
 use std::cell::OnceCell;
 use std::fs::{self, File};
 use std::path::{Path, PathBuf};
+use std::process;
 use std::time::Duration;
 
 /// How long nothing has moved where all are taken to sleep by a clock.
@@ -14,8 +15,11 @@ const STILL: Duration = Duration::from_millis(1);
 /// How far away a timer is at most that is waited for.
 pub(super) const SOON: Duration = Duration::from_millis(50);
 
+/// By how much runtimes round the time up until which they sleep.
+const ROUNDING: Duration = Duration::from_millis(2);
+
 /// What the names of this crate's own threads begin with. They are no part of the test.
-const OURS: &[u8] = b"yovanelum-";
+pub(super) const OURS: &[u8] = b"yovanelum-";
 
 /// The number that the system has for a thread.
 pub(crate) type ThreadId = u32;
@@ -43,7 +47,7 @@ pub(crate) struct Sleeper {
     /// A hash of where it sleeps. It is another one when it has slept elsewhere in between.
     place: u64,
     timer: Option<Timer>,
-    /// Whether it was there before the test.
+    /// Whether it is the harness's, and not of the test.
     is_of_others: bool,
 }
 
@@ -65,6 +69,8 @@ pub(crate) struct Threads {
     is_told: bool,
     threads: Vec<Thread>,
     link_count: u64,
+    // The thread of the harness.
+    harness: Option<ThreadId>,
 }
 
 struct Thread {
@@ -79,11 +85,11 @@ struct Thread {
 }
 
 impl Threads {
-    /// The threads of this process. Those that are there already aren't waited for by time, but the
-    /// current one.
+    /// The threads of this process. Where the current one isn't the first, that is the harness, for
+    /// whose time nobody waits.
     pub(super) fn of_this_process() -> Threads {
         let mut threads = Threads::of(Path::new("/proc/self"));
-        threads.list(Some(this_thread()));
+        threads.harness = Some(process::id()).filter(|first| *first != this_thread());
         threads
     }
 
@@ -95,6 +101,7 @@ impl Threads {
             is_told: system_call::is_known() && line.is_ok_and(|line| !line.is_empty()),
             threads: Vec::new(),
             link_count: 0,
+            harness: None,
         }
     }
 
@@ -113,7 +120,7 @@ impl Threads {
         if !self.is_told {
             return (still >= STILL).then(Vec::new);
         }
-        self.list(None);
+        self.list();
         let mut sleepers = Vec::with_capacity(self.threads.len());
         for thread in &mut self.threads {
             let asked = asked(thread.number);
@@ -137,9 +144,8 @@ impl Threads {
         Some(sleepers)
     }
 
-    /// Lists the threads again if there are others than before. In the first list, all but this one
-    /// are of others.
-    fn list(&mut self, first: Option<ThreadId>) {
+    /// Lists the threads again if there are others than before.
+    fn list(&mut self) {
         let Some(link_count) = link_count(&self.folder) else {
             return;
         };
@@ -154,7 +160,7 @@ impl Threads {
             .retain(|thread| numbers.contains(&thread.number));
         for number in numbers {
             if !self.threads.iter().any(|thread| thread.number == number) {
-                let is_of_others = first.is_some_and(|first| first != number);
+                let is_of_others = self.harness == Some(number);
                 let folder = self.folder.join(number.to_string());
                 self.threads
                     .extend(Thread::open(number, &folder, is_of_others));
@@ -162,16 +168,15 @@ impl Threads {
         }
     }
 
-    /// Whether a thread has run for so long since this move, in time of a processor. One that only
-    /// waits for a processor hasn't.
-    pub(super) fn does_one_run_on(
+    /// Returns how long a thread has run since this move at most, in time of a processor, as far as
+    /// it was looked at. One that only waits for a processor doesn't run.
+    pub(super) fn longest_run(
         &mut self,
         at_move: u64,
-        patience: Duration,
         is_left_out: impl Fn(ThreadId) -> bool,
-    ) -> bool {
-        self.list(None);
-        let mut is_found = false;
+    ) -> Duration {
+        self.list();
+        let mut longest = 0;
         let mut has_ended = false;
         for thread in &mut self.threads {
             let Some(run) = thread.nanoseconds_run() else {
@@ -183,7 +188,7 @@ impl Threads {
             }
             match thread.ran {
                 Some((before, from)) if before == at_move => {
-                    is_found |= Duration::from_nanos(run.saturating_sub(from)) > patience;
+                    longest = longest.max(run.saturating_sub(from));
                 }
                 _ => thread.ran = Some((at_move, run)),
             }
@@ -191,7 +196,7 @@ impl Threads {
         if has_ended {
             self.link_count = 0;
         }
-        is_found
+        Duration::from_nanos(longest)
     }
 }
 
@@ -255,7 +260,7 @@ impl Sleeper {
                 }
             }),
         };
-        left.is_none_or(|left| left <= SOON)
+        left.is_none_or(|left| left <= SOON + ROUNDING)
     }
 }
 
@@ -409,7 +414,7 @@ mod tests {
         let of_thread = is_over.clone();
         let (number, handle) = started(move || while !of_thread.load(Ordering::Relaxed) {});
         let patience = Duration::from_millis(5);
-        while !threads.does_one_run_on(7, patience, |other| other != number) {
+        while threads.longest_run(7, |other| other != number) <= patience {
             thread::yield_now();
         }
         is_over.store(true, Ordering::Relaxed);

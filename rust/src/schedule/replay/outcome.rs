@@ -7,6 +7,7 @@ use super::state::GateState;
 use crate::channels::backend::Actor;
 use crate::channels::recorder::NotedPanic;
 use crate::channels::turns::TestEnd;
+use crate::run::account::UnnamedChannel;
 use crate::run::sidecar::{Panic, Sidecar, SourceLocation};
 use std::fmt::{self, Write as _};
 
@@ -331,7 +332,10 @@ pub(super) fn shared_making(name: Option<&str>) -> String {
 pub(super) fn push_channel(words: &mut String, plan: &Plan, channel: u32) {
     let _ = match plan.names.channels.get(&channel.into()) {
         Some(name) => write!(words, "`{name}`"),
-        None => write!(words, "channel {channel}"),
+        None => {
+            let unnamed = UnnamedChannel::of(&plan.names, channel.into());
+            write!(words, "{}", unnamed.in_sentence())
+        }
     };
 }
 

@@ -2,6 +2,7 @@
 
 mod divergence;
 mod futures;
+mod outcome;
 #[cfg(all(
     target_os = "linux",
     any(target_arch = "x86_64", target_arch = "aarch64"),
@@ -69,6 +70,12 @@ fn gate_of(journal: &str, names: &str, patience: Duration) -> Arc<Gate> {
 
 fn gate() -> Arc<Gate> {
     gate_of(JOURNAL, NAMES, PATIENT)
+}
+
+/// A gate without its helper: nothing looks after its futures but the test.
+fn gate_without_helper(journal: &str, patience: Duration) -> Arc<Gate> {
+    let plan = plan_of(journal, NAMES);
+    Arc::new(Gate::new(Path::new("a/test.journal"), 1, plan, patience))
 }
 
 fn call(actor: usize, channel: u32, word: Operation, handle: u32) -> ArrivingCall {

@@ -1,7 +1,7 @@
-//! What it costs that tasks are seen: `pending_polls WHAT COUNT [recorded]`. `queue` sends so many
-//! values between two tasks and back, `yields` polls a task so often that it is pending, and
-//! `calls` sends and receives so many by a channel of yovanelum. It prints the least time of seven
-//! turns, in nanoseconds of the process for each.
+//! What it costs that tasks are seen: `pending_polls WHAT COUNT [recorded]`. `queue` sends that
+//! many values between two tasks and back, `yields` polls a task so often that it is pending, and
+//! `calls` sends and receives that many by a channel of yovanelum. It prints the least time of
+//! seven turns, in nanoseconds of the process for each.
 
 use std::time::Duration;
 use tokio::sync::{broadcast, mpsc};

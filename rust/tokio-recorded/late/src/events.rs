@@ -1,5 +1,6 @@
-//! What the programs of `tests/blind.rs` share. Nothing waits for a time to pass: the feed goes on
-//! once the receiver's task is busy, and what that waits for comes once orders were overwritten.
+//! What the programs of `tests/blind.rs` and `tests/further.rs` share. Nothing waits for a time to
+//! pass: the feed goes on once the receiver's task is busy, and what that waits for comes once
+//! orders were overwritten.
 
 use std::future::Future;
 use std::pin::Pin;
@@ -32,7 +33,7 @@ impl Signals {
     /// spawned is run by the same worker after it.
     pub fn is_busy_after_poll(self: &Arc<Signals>) {
         let signals = self.clone();
-        tokio::spawn(async move { signals.busy.notify_one() });
+        tokio::spawn(async move { signals.busy.notify_one() }); // @events_rung
     }
 
     /// Tells it within the poll, to a thread.
@@ -56,9 +57,14 @@ impl Signals {
         self.overwritten.notify_one();
     }
 
+    /// Whether orders were overwritten.
+    pub fn has_overwritten(&self) -> bool {
+        self.is_overwritten.load(Ordering::SeqCst)
+    }
+
     /// Blocks the thread until orders were overwritten.
     pub fn block_until_overwritten(&self) {
-        while !self.is_overwritten.load(Ordering::SeqCst) {
+        while !self.has_overwritten() {
             std::thread::yield_now();
         }
     }

@@ -1,13 +1,17 @@
 //! Tasks that wait and wake each other without end, while a test's recorder sees them: none is
-//! forgotten, and no memory is kept.
+//! forgotten, and no memory is kept. The variable `STRESS_ROUNDS` has them go on for longer.
 
 use std::sync::Arc;
 use std::time::Duration;
 use tokio::sync::{Mutex, Notify, Semaphore, broadcast, mpsc, oneshot};
 use yovanelum::Recorder;
 
-const ROUNDS: u32 = 200;
 const TASKS: u32 = 1_000;
+
+/// How many rounds there are.
+fn count() -> u32 {
+    std::env::var("STRESS_ROUNDS").map_or(200, |rounds| rounds.parse().unwrap())
+}
 
 /// How many kilobytes of memory the process has.
 fn memory() -> u64 {
@@ -58,14 +62,15 @@ async fn rounds(count: u32) {
     assert_eq!(*lock.lock().await, 2 * count);
 }
 
-fn within_a_minute(workers: usize, future: impl Future<Output = ()> + Send + 'static) {
+/// Runs this, and fails if it hangs.
+fn run_to_the_end(workers: usize, future: impl Future<Output = ()> + Send + 'static) {
     let runtime = tokio::runtime::Builder::new_multi_thread()
         .worker_threads(workers)
         .enable_all()
         .build()
         .unwrap();
     let done = runtime.block_on(async {
-        tokio::time::timeout(Duration::from_secs(240), tokio::spawn(future)).await
+        tokio::time::timeout(Duration::from_secs(1_200), tokio::spawn(future)).await
     });
     done.expect("a task that is woken").unwrap();
 }
@@ -74,8 +79,8 @@ fn within_a_minute(workers: usize, future: impl Future<Output = ()> + Send + 'st
 fn no_wake_is_lost_on_one_worker_or_two() {
     let _recorder = Recorder::for_test("no_wake_is_lost");
     for workers in [1, 2] {
-        within_a_minute(workers, async {
-            let tasks: Vec<_> = (0..8).map(|_| tokio::spawn(rounds(ROUNDS))).collect();
+        run_to_the_end(workers, async {
+            let tasks: Vec<_> = (0..8).map(|_| tokio::spawn(rounds(count()))).collect();
             for task in tasks {
                 task.await.unwrap();
             }
@@ -86,7 +91,7 @@ fn no_wake_is_lost_on_one_worker_or_two() {
 #[test]
 fn memory_stays_flat_with_a_thousand_tasks() {
     let _recorder = Recorder::for_test("memory_stays_flat");
-    within_a_minute(2, async {
+    run_to_the_end(2, async {
         let bells: Vec<_> = (0..TASKS)
             .map(|_| (Arc::new(Notify::new()), Arc::new(Notify::new())))
             .collect();
@@ -100,18 +105,18 @@ fn memory_stays_flat_with_a_thousand_tasks() {
         });
         let tasks: Vec<_> = tasks.collect();
         let mut least = u64::MAX;
-        for round in 0..ROUNDS {
+        for round in 0..count() {
             for (ring, _) in &bells {
                 ring.notify_one();
             }
             for (_, rung) in &bells {
                 rung.notified().await;
             }
-            if round == ROUNDS / 2 {
+            if round == 100 {
                 least = memory();
             }
         }
-        // What is kept of tasks is full after a quarter of the rounds.
+        // What is kept of tasks is full after fifty rounds.
         assert!(memory() < least + 4_096, "{} after {least} kB", memory());
         tasks.iter().for_each(|task| task.abort());
     });

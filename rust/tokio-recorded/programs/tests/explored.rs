@@ -227,7 +227,7 @@ fn tasks_without_names_are_actors_in_the_report() {
     assert!(!passes, "{said}");
     let (task, lost) = (
         "error: `task of tests/explored.rs:",
-        "` lost 1 of 3 values of channel 0 (capacity 2)",
+        "` lost 1 of 3 values of the channel of tests/explored.rs:65 (capacity 2)",
     );
     let told = |line: &str| line.starts_with(task) && line.ends_with(lost);
     assert!(said.lines().any(told), "{said}");

@@ -296,7 +296,10 @@ async fn audited(is_ordered: bool) -> Result<u32, broadcast::error::RecvError> {
     audit.await.unwrap()
 }
 
-/// Records the order that is set, and replays it where none is set.
+/// How often a run is replayed.
+const REPLAYS: u32 = 100;
+
+/// Records the order that is set, and replays it where none is set, as a test whose tasks are seen.
 fn assert_replayed(name: &str, runtime: impl Fn() -> Runtime) {
     let path = env::temp_dir().join(format!("{name}-{}.journal", process::id()));
     let recorder = Recorder::new();
@@ -305,16 +308,33 @@ fn assert_replayed(name: &str, runtime: impl Fn() -> Runtime) {
     assert_eq!(runtime().block_on(audited(true)), lagged);
     drop(entered);
     recorder.save(&path).unwrap();
-    for _ in 0..20 {
+    for time in 1..=REPLAYS {
         let recorder = Recorder::replay(&path).unwrap();
-        let _entered = recorder.enter();
+        let test = recorder.save_on_panic(name);
+        let entered = recorder.enter();
         let got = runtime().block_on(audited(false));
+        drop(entered);
         let replayed = recorder.replayed().unwrap();
         assert!(replayed.is_in_order(), "{replayed}");
         assert_eq!(got, lagged);
+        if time == REPLAYS {
+            test.save_on_err(got).unwrap_err();
+        }
     }
+    assert_tasks_are_seen(name);
     fs::remove_file(path.with_extension("names")).unwrap();
     fs::remove_file(&path).unwrap();
+}
+
+/// Asserts that what the replay of a test has written, which failed, has its tasks.
+fn assert_tasks_are_seen(name: &str) {
+    let program = env::current_exe().unwrap();
+    let target = program.ancestors().nth(3).unwrap();
+    let package = target.join("yovanelum").join(env!("CARGO_PKG_NAME"));
+    let files = package.join("test-spawned");
+    let names = fs::read_to_string(files.join(format!("{name}.replayed.names"))).unwrap();
+    let (_, seen) = names.split_once("\"tasks_seen\"").expect("tasks were seen");
+    assert!(seen.contains("task of tests/spawned.rs:"), "{seen}");
 }
 
 #[test]

@@ -9,15 +9,15 @@ use yovanelum::{Recorder, broadcast, named, watch};
 
 const EVENTS: u64 = 2_000;
 
-/// What a subscriber came to.
+/// What a subscriber received, and how much it lost.
 #[derive(Debug, Default)]
-struct Came {
+struct BusTally {
     got: u64,
     lost: u64,
     last: Option<u64>,
 }
 
-impl Came {
+impl BusTally {
     fn take(&mut self, event: Result<u64, RecvError>) -> bool {
         match event {
             Ok(event) => {
@@ -33,20 +33,23 @@ impl Came {
 }
 
 /// Receives to the end, each receive raced against others that win now and then.
-async fn subscriber(mut bus: broadcast::Receiver<u64>, mut settings: watch::Receiver<u32>) -> Came {
-    let mut came = Came::default();
+async fn subscriber(
+    mut bus: broadcast::Receiver<u64>,
+    mut settings: watch::Receiver<u32>,
+) -> BusTally {
+    let mut tally = BusTally::default();
     let mut is_set = true;
     loop {
         tokio::select! {
-            event = bus.recv() => if !came.take(event) { return came },
+            event = bus.recv() => if !tally.take(event) { return tally },
             changed = settings.changed(), if is_set => is_set = changed.is_ok(),
             () = sleep(Duration::from_micros(50)) => {}
         }
         // A receive that is cancelled before it is done loses nothing.
         if let Ok(event) = timeout(Duration::ZERO, bus.recv()).await
-            && !came.take(event)
+            && !tally.take(event)
         {
-            return came;
+            return tally;
         }
     }
 }
@@ -78,8 +81,8 @@ async fn run() {
     cut_off.abort();
     publisher.await.unwrap();
     for subscriber in subscribers {
-        let came = subscriber.await.unwrap();
-        assert_eq!(came.got + came.lost, EVENTS, "{came:?}");
+        let tally = subscriber.await.unwrap();
+        assert_eq!(tally.got + tally.lost, EVENTS, "{tally:?}");
     }
 }
 

@@ -10,7 +10,7 @@ mod event_bus;
 mod given;
 mod names;
 mod own_channels;
-mod same_answers;
+mod storm;
 mod streams;
 mod texts;
 mod wakes;

@@ -11,7 +11,7 @@ const COVERED: &[(&str, &str, &str)] = &[
     ("rw_broadcast/src/machine.rt", "open", "open_channel, capacity"),
     ("rw_broadcast/src/machine/reversible.rt", "apply", "Broadcast, handles"),
     ("rw_broadcast/src/machine/reversible.rt", "ready", "Broadcast, handles"),
-    ("rw_console/src/command.rt", "command_of", "none: a command of more bytes than a line may have is a bad one, as are all of so many"),
+    ("rw_console/src/command.rt", "command_of", "none: a command of more bytes than a line may have is a bad one, as are all of that length"),
     ("rw_console/src/debugging.rt", "debug_again", "debug, bytes"),
     ("rw_console/src/sessions.rt", "session", "session, bytes"),
     ("rw_desk/src/desk.rt", "refusal_to_open", "Desk::open, actors"),

@@ -1,4 +1,4 @@
-//! Tests of calls: of channels, handles and rings, as books and ledgers record them and walks undo them, by passes, desks and seats,
+//! Tests of calls: of channels, handles, rings and those who wait, as books and ledgers record them and walks undo them, by passes, desks and seats,
 //! in one thread and in several, and of scripts that threads play.
 //!
 //! Each says what is called and what is answered, from the channels' documentation and not from the code.
@@ -12,4 +12,5 @@ mod journals;
 mod rings;
 mod seats;
 mod threads;
+mod waiting;
 mod walks;

@@ -6,6 +6,7 @@ use super::WriteDump;
 use super::dump::Dump;
 use super::dumping::Trigger;
 use crate::channels::channel::{ChannelState, KeptChannel};
+use crate::channels::channel_lock::ChannelLock;
 use crate::channels::events::values;
 use crate::channels::handle::Kind;
 use crate::core::large_pages::without_giving_back;
@@ -14,9 +15,9 @@ use crate::run::clock::{Moment, now, wall};
 use std::io;
 use std::panic::{self, AssertUnwindSafe};
 use std::path::PathBuf;
+use std::sync::Arc;
 use std::sync::atomic::Ordering;
 use std::sync::mpsc::{Sender, channel};
-use std::sync::{Arc, Mutex};
 use std::thread;
 
 /// What called for a journal of the last calls.
@@ -38,7 +39,7 @@ pub(crate) struct DumpRequest {
     pub(crate) last: u64,
     pub(crate) began: Option<Moment>,
     /// The channel that it is about, with its calls.
-    pub(crate) own: Option<(Arc<Mutex<ChannelState>>, KeptChannel)>,
+    pub(crate) own: Option<(Arc<ChannelLock<ChannelState>>, KeptChannel)>,
     pub(crate) panic: Option<NotedPanic>,
     told: Sender<io::Result<PathBuf>>,
     write: WriteDump,
@@ -69,7 +70,7 @@ impl Shared {
     /// this number has lost `lost` values.
     pub(crate) fn dump_on_lag(
         self: &Arc<Shared>,
-        channel: &Arc<Mutex<ChannelState>>,
+        channel: &Arc<ChannelLock<ChannelState>>,
         state: &mut ChannelState,
         receiver: u32,
         lost: u64,
@@ -88,10 +89,10 @@ impl Shared {
     /// held.
     pub(crate) fn dump_on_close(
         self: &Arc<Shared>,
-        channel: &Arc<Mutex<ChannelState>>,
+        channel: &Arc<ChannelLock<ChannelState>>,
         state: &mut ChannelState,
     ) -> Option<Box<DumpRequest>> {
-        let (dumping, name) = (&self.flight.as_ref()?.dumping, state.name.clone()?);
+        let (dumping, name) = (&self.flight.as_ref()?.dumping, state.seldom().name.clone()?);
         if !dumping.are(|settings| settings.closed.contains(&name)) {
             return None;
         }
@@ -137,7 +138,7 @@ impl DumpRequest {
         trigger: Trigger,
         reason: String,
         recorder: &Arc<Shared>,
-        (channel, state): (&Arc<Mutex<ChannelState>>, &mut ChannelState),
+        (channel, state): (&Arc<ChannelLock<ChannelState>>, &mut ChannelState),
     ) -> Option<Box<DumpRequest>> {
         let (mut request, _) = DumpRequest::new(recorder, trigger, reason).ok()?;
         match state.kept(recorder.times) {

@@ -32,7 +32,7 @@ pub(crate) fn zeros(alloc: Global, count: u32) -> Result<Vec<u32>, NoMemory>
     Ok(numbers)
 }
 
-/// Returns for each of so many handles its place in the list, or 0.
+/// Returns for each of this many handles its place in the list, or 0.
 fn places_of(alloc: Global, count: u32, before: &[u32]) -> Result<Vec<u32>, NoMemory>
 //~     requires { length before.now < 2 ^ 32 }
 //~     ensures { IfOk result (λ places. length places.items ≡ count) }
@@ -47,7 +47,7 @@ fn places_of(alloc: Global, count: u32, before: &[u32]) -> Result<Vec<u32>, NoMe
 }
 
 impl Numbering {
-    /// Makes the numbering by which live handle `before[i]` of so many has the number `after[i]`. There is none where two of them
+    /// Makes the numbering by which live handle `before[i]`, of this many, has the number `after[i]`. There is none where two of them
     /// are the same.
     pub fn of(
         alloc: Global,

@@ -9,7 +9,7 @@ use crate::shim::Vec; //+
 
 use crate::source::rw_seat::acquiring::{FREE, TableSeat, acquire, release};
 use crate::source::rw_seat::lent::Lent;
-use crate::source::rw_seat::rule::{Deal, Meet, OneBook};
+use crate::source::rw_seat::rule::{Meet, OneBook, SplitFirst};
 use crate::source::rw_seat::view::{Opening, View};
 use crate::shim::atomic_table::{Refused, Table};
 use crate::source::rw_journal::Keeps;
@@ -96,7 +96,7 @@ impl<B: Keeps /*~+ Drop~*/> HandOff<B> {
                     seats,
                     sleepers: AtomicU64::new(0),
                 };
-                all.deal(seat, &mut hand_seats);
+                all.split(seat, &mut hand_seats);
                 Ok((all, hand_seats))
             }
             Err(Refused { slots: _ }) => Err(NoMemory),
@@ -104,16 +104,16 @@ impl<B: Keeps /*~+ Drop~*/> HandOff<B> {
     }
 
     /// Splits a seat of all numbers into seats of one number each.
-    fn deal(&self, seat: TableSeat<B>, hand_seats: &mut Vec<HandSeat<B>>)
+    fn split(&self, seat: TableSeat<B>, hand_seats: &mut Vec<HandSeat<B>>)
 //~         requires of_table { seat.table_id ≡ self.now.home.table }
 //~         requires room { (hand_seats.old.items ≡ []) × (self.now.seats ≤ vec_capacity hand_seats.old) }
 //~         requires all { seat.me ≡ (resting (numbers_from 0 self.now.seats) self.now.home.start seat.me.0.front, []) }
-//~         ensures dealt { hand_seats.new.items ≡ map (λ n. record { number = n; home = self.now.home; front = seat.me.0.front }) (numbers_from 0 self.now.seats) }
+//~         ensures split { hand_seats.new.items ≡ map (λ n. record { number = n; home = self.now.home; front = seat.me.0.front }) (numbers_from 0 self.now.seats) }
 //~         ensures home { All (λ s. s.home ≡ self.now.home) hand_seats.new.items }
     {
         let mut rest = seat;
         for number in 0..self.seats - 1 {
-            let others = self.table.shared.split_seat::<Deal>(&mut rest);
+            let others = self.table.shared.split_seat::<SplitFirst>(&mut rest);
             hand_seats.push_reserved(HandSeat { number, seat: rest });
             rest = others;
         }
@@ -172,7 +172,7 @@ impl<B: Keeps /*~+ Drop~*/> HandOff<B> {
         table.join_seat::<Meet>(&mut seat, other);
         let book = acquire(table, &self.sleepers, rt, &mut seat);
         release(table, &self.sleepers, &mut seat, book);
-        let other = table.split_seat::<Deal>(&mut seat);
+        let other = table.split_seat::<SplitFirst>(&mut seat);
         let one = HandSeat {
             number: first,
             seat,

@@ -39,9 +39,9 @@ impl<B: Keeps> Play<Option<B>, View<B::Entry, B::Start>> for Release<B> {
 }
 
 /// A split: the first number stays, and the others go to the new seat.
-pub struct Deal;
+pub struct SplitFirst;
 
-impl<E, S> Split<View<E, S>> for Deal {
+impl<E, S> Split<View<E, S>> for SplitFirst {
 //~     ghost left = { first_part };
 
 //~     ghost right = { other_part };

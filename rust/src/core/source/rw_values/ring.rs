@@ -6,7 +6,7 @@
 
 use crate::source::rw_ring::MOST_CAPACITY;
 
-/// Returns the index of the cell that comes this many after the first one, in a ring of so many.
+/// Returns the index of the cell that comes this many after the first one, in a ring of that many cells.
 #[inline(always)]
 pub(crate) fn cell_of(first: usize, count: usize, age: usize) -> usize
 //~     requires first { first < count }

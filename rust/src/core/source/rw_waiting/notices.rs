@@ -19,7 +19,7 @@ pub enum WaitFor {
 pub enum Notice {
     /// It has sent a value, or changed the value of a watch and notified its receivers.
     Sent,
-    /// It has dropped a handle of this kind, and so many of this kind are alive then.
+    /// It has dropped a handle of this kind, and this number of its kind is alive then.
     Dropped(Kind, u64),
 }
 

@@ -98,6 +98,27 @@ fn it_was_ready_and_another_ran() {
 }
 
 #[test]
+fn who_ran_while_the_calls_were_made_is_said_however_long_the_thread_stood_after_that() {
+    let audit = r#"{"name": "audit", "actor": 1, "polls": [[10, 20, 1, 2, 0, [0], 903, 3, "task 0", null, 0], [49000, null, 5, 6, 0, []]]}"#;
+    let import =
+        r#"{"name": "import", "polls": [[30, 40, 2, 2, 0, [3]], [50, 2906, 2, 5, 0, [3]]]}"#;
+    // Its poll is the longest, and began after all calls.
+    let after = r#"{"name": "late", "polls": [[3000, 40000, 5, 5, 0, [3]]]}"#;
+    let thread = FEED.replace(", 0, [3]]", ", 7, [3]]");
+    let all = of(TIMES, &[&thread, audit, import, after]);
+    let ready = "it was ready from call 3 on, and not polled until call 5";
+    let ran = "import ran 2 ms without giving way, from src/import.rs:77";
+    assert_eq!(late(&all), [format!("{ready}: {ran}")]);
+    // In two polls it gave way, and was run for a small part of the time.
+    let twice = import.replace(
+        "[50, 2906, 2, 5,",
+        "[50, 2000, 2, 4, 0, [3]], [2100, 2906, 4, 5,",
+    );
+    let all = of(TIMES, &[&thread, audit, &twice, after]);
+    assert_eq!(late(&all), [ready]);
+}
+
+#[test]
 fn nobody_polled_it() {
     let audit = r#"{"name": "audit", "actor": 1, "within": 2, "polls": [[10, 20, 1, 2, 0, [0], 903, 3, "task 0", null, 0], [17000, null, 5, 6, 0, []]]}"#;
     let main = r#"{"name": "main", "polls": [[9, 21, 1, 2, 0, [3]], [950, 960, 3, 3, 0, [3]], [16990, null, 5, 6, 0, []]]}"#;
@@ -115,6 +136,26 @@ fn more_was_sent_in_one_poll_than_is_retained() {
     // On a thread of its own the receiver had a turn, and was as fast as it could.
     let beside = of(TIMES, &[feed, &audit.replace(", 0, [", ", 1, [")]);
     assert_eq!(late(&beside), [sent]);
+}
+
+#[test]
+fn what_woke_the_sender_is_told_with_what_it_sent_at_once() {
+    let feed = |woken: &str| {
+        let woken = woken.replace('\'', "\"");
+        format!(
+            r#"{{"name": "feed", "actor": 0, "polls": [[0, 5, 0, 1, 0, [3], {woken}], [900, 910, 2, 5, 0, [3]]]}}"#
+        )
+    };
+    let audit = r#"{"name": "audit", "actor": 1, "polls": [[10, 20, 1, 2, 0, [0], 903, 3, "task 0", null, 0], [920, null, 5, 6, 0, []]]}"#;
+    let sent = "feed sent 3 values in one poll (src/feed.rs:20 to 31), which gives nobody a turn";
+    let by_timer = of(TIMES, &[&feed("899, 2, 'timer', null, 3"), audit]);
+    let woken = "feed was woken by a timer; it waited in Sleep, src/import.rs:77";
+    assert_eq!(late(&by_timer), [sent, woken]);
+    let by_audit = of(TIMES, &[&feed("899, 2, 'task 1', null, 3"), audit]);
+    let woken = "feed was woken by audit; it waited in Sleep, src/import.rs:77";
+    assert_eq!(late(&by_audit), [sent, woken]);
+    let unknown = of(TIMES, &[&feed("899, 2, 'somebody', null, 3"), audit]);
+    assert_eq!(late(&unknown), [sent]);
 }
 
 #[test]
@@ -136,6 +177,17 @@ fn its_own_task_sent() {
     assert_eq!(
         late(&all),
         ["its own task sent 3 values before it received"]
+    );
+    // Two more, after the one that overwrote the first.
+    let mut calls = both.clone();
+    calls.splice(4.., [both[4]; 3]);
+    calls.push("0 0 recv 1 = lagged 3");
+    let names = names(TIMES, &[&main.replace("0, 6", "0, 8")]);
+    let names = names.replace("1, 1, 2]", "1, 1, 1, 1, 2]");
+    let all = account(&["broadcast 2"], &calls, &names);
+    assert_eq!(
+        late(&all),
+        ["its own task sent 5 values before it received"]
     );
 }
 
@@ -175,6 +227,9 @@ fn a_function_stands_for_lines_that_are_not_there() {
     let wanted =
         "from call 2 to call 5 its task waited 12 ms in Sleep, in shop::import; woken by a timer";
     assert_eq!(late(&of(TIMES, &[FEED, &waits])), [wanted]);
+    let waits = waits.replace("\"timer\", null, 5]", "\"task 2\", 5, 5]");
+    let wanted = "from call 2 to call 5 its task waited 12 ms in Sleep, in shop::import; woken by backup, in shop::import";
+    assert_eq!(late(&of(TIMES, &[FEED, &waits, BACKUP])), [wanted]);
 }
 
 #[test]

@@ -2,7 +2,9 @@
 
 use super::stretches::Stretch;
 use crate::run::account::{Context, visible};
-use crate::run::sidecar::{SeenPoll, SeenTask, SeenWake, SourceLocation, TasksSeen, WokenBy};
+use crate::run::sidecar::{
+    SeenPlace, SeenPoll, SeenTask, SeenWake, SourceLocation, TasksSeen, WokenBy,
+};
 
 /// How many places of one wait are named.
 const MOST_PLACES: usize = 2;
@@ -93,14 +95,7 @@ impl<'a> LateTexts<'a> {
     fn place(&self, index: usize) -> Option<String> {
         let place = &self.seen.places[index];
         let what = visible::path(&place.what);
-        let at = self.source(place.location).map(visible::line_of);
-        let at = at.or_else(|| {
-            place
-                .function
-                .as_ref()
-                .map(|it| format!("in {}", visible::path(it)))
-        });
-        match (what.as_str(), at) {
+        match (what.as_str(), self.own_place(place)) {
             ("", None) => None,
             ("", Some(at)) => Some(at),
             (what, None) => Some(what.to_string()),
@@ -108,11 +103,18 @@ impl<'a> LateTexts<'a> {
         }
     }
 
+    /// Returns where a place is in the program: its line, or its function where a build has none.
+    fn own_place(&self, place: &SeenPlace) -> Option<String> {
+        let at = self.source(place.location).map(visible::line_of);
+        let function = place.function.as_ref();
+        at.or_else(|| function.map(|it| format!("in {}", visible::path(it))))
+    }
+
     /// Returns who woke a task, and where, as far as it is known.
     pub(super) fn woken_by(&self, task: &SeenTask, woken: &SeenWake) -> Option<String> {
         let place = woken.place.map(|place| &self.seen.places[place]);
-        let at = place.and_then(|place| self.source(place.location));
-        let at = at.map_or(String::new(), |at| format!(", {}", visible::line_of(at)));
+        let at = place.and_then(|place| self.own_place(place));
+        let at = at.map_or(String::new(), |at| format!(", {at}"));
         Some(match &woken.by {
             WokenBy::Task(by) if std::ptr::eq(&raw const self.seen.tasks[*by], task) => {
                 format!("itself{at}")
@@ -124,6 +126,20 @@ impl<'a> LateTexts<'a> {
             WokenBy::Thread(name) => format!("thread {}", visible::name(name)),
             WokenBy::Somebody => return None,
         })
+    }
+
+    /// Says who woke a task for a poll, and where it waited before, if who did is known.
+    pub(super) fn woken_for(&self, task: &SeenTask, poll: &SeenPoll) -> Option<String> {
+        let index = task.polls.iter().position(|it| std::ptr::eq(it, poll))?;
+        let before = index.checked_sub(1)?;
+        let woken = task.polls[before].woken.as_ref()?;
+        let by = self.woken_by(task, woken)?;
+        let places = waited_at(self.seen, task, before);
+        let known = places.iter().all(|place| is_known(self.seen, *place));
+        let places = known.then(|| self.in_places(places));
+        let places = places.filter(|places| !places.is_empty());
+        let waited = places.map_or(String::new(), |places| format!("; it waited{places}"));
+        Some(format!("{} was woken by {by}{waited}", self.name(task)))
     }
 
     /// Returns the line at which a poll goes on: where the one before it waited.
@@ -164,12 +180,16 @@ impl<'a> LateTexts<'a> {
         format!("{name} sent {values} in one poll{lines}{end}")
     }
 
-    /// Says who ran while the task of this index was ready, on the thread that polled it then.
-    pub(super) fn busy(&self, own: usize, stretch: &Stretch) -> Option<String> {
+    /// Says who ran while the task of this index was ready, on the thread that polled it then: in
+    /// one poll all the time of the calls of this window, or else most of the time.
+    pub(super) fn busy(&self, own: usize, stretch: &Stretch, window: (u64, u64)) -> Option<String> {
         let polls = &self.seen.tasks[own].polls;
         let next = polls.get(stretch.index + 1);
         let thread = next.unwrap_or(&polls[stretch.index]).thread;
         let ((from, to), now) = (stretch.times, self.seen.now);
+        // A thread that isn't run for a while has polls of any length.
+        let (after, last) = (stretch.from.max(window.0), stretch.to.min(window.1));
+        let spans = |poll: &SeenPoll| poll.before <= after && last <= poll.last();
         let tasks = self.seen.tasks.iter().enumerate();
         let tasks = tasks.filter(|(index, _)| *index != own && !self.is_around(*index, own));
         let ran = tasks.flat_map(|(_, task)| {
@@ -179,16 +199,17 @@ impl<'a> LateTexts<'a> {
                 .partition_point(|poll| poll.end.is_some_and(|end| end < from));
             let polls = task.polls.iter().enumerate().skip(first);
             let polls = polls.take_while(|(_, poll)| poll.begin <= to);
-            let here = polls.filter(|(_, poll)| poll.thread == thread);
+            // One that began after the last of the calls was in nobody's way.
+            let here = polls.filter(|(_, poll)| poll.thread == thread && poll.before < window.1);
             here.map(move |(index, poll)| {
                 let (begin, end) = (poll.begin, poll.end.unwrap_or(now));
                 let part = end.min(to).saturating_sub(begin.max(from));
-                (part, begin, (end - begin), task, index)
+                (spans(poll), part, begin, (end - begin), task, index)
             })
         });
-        let (part, _, time, task, index) = ran.max_by_key(|it| (it.0, it.1))?;
-        let is_most = self.seen.has_times && part * PART_OF_READY >= stretch.time;
-        if !is_most {
+        let (spans, part, _, time, task, index) = ran.max_by_key(|it| (it.0, it.1, it.2))?;
+        let is_most = spans || part * PART_OF_READY >= stretch.time;
+        if !is_most || !self.seen.has_times {
             return None;
         }
         let at = self.resumed_at(task, index);

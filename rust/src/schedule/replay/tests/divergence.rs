@@ -1,14 +1,15 @@
 //! Gates at which the run leaves the journal's order.
 
 use super::{
-    AUDIT, CLERK, JOURNAL, NAMES, NOBODY, PATIENT, call, gate, gate_of, make, make_first, ordered,
-    poll, told,
+    AUDIT, CLERK, JOURNAL, NAMES, NOBODY, PATIENT, call, gate, gate_of, gate_without_helper, make,
+    make_first, ordered, poll, told,
 };
 use crate::channels::block_on::block_on;
 use crate::channels::turns::{ArrivingCall, Turns};
 use crate::run::operation::Operation;
 use std::future::poll_fn;
 use std::task::{Context, Poll};
+use std::thread;
 use std::time::Duration;
 
 #[test]
@@ -81,6 +82,50 @@ fn a_future_goes_on_where_nothing_comes_for_too_long() {
     let wanted = "diverges at call 1 of 6: expected `send 0` on `orders` by `clerk` at src/shop.rs:15, \
                   came nothing for 25 ms, while `recv 1` on `orders` by `audit` waited";
     assert_eq!(gate.outcome().to_string(), format!("{wanted}{NAME_TASKS}"));
+}
+
+#[test]
+#[cfg_attr(target_family = "wasm", ignore = "WebAssembly has no threads")]
+fn of_two_futures_the_one_that_has_waited_too_long_is_told() {
+    let gate = gate_without_helper(JOURNAL, Duration::from_millis(5));
+    let (_, waker, _woken) = told();
+    let recv = call(AUDIT, 0, Operation::Recv, 1);
+    assert!(!poll(&gate, recv, &mut None, &waker));
+    let since = gate.entrance.lock().waiters.values().next().unwrap().since;
+    while gate.entrance.lock().clock.since(since) < Duration::from_millis(25) {
+        thread::yield_now();
+    }
+    // The journal has no such handle.
+    let late = call(CLERK, 0, Operation::Recv, 5);
+    assert!(!poll(&gate, late, &mut None, &waker));
+    gate.look_after_futures(&mut gate.entrance.lock(), false);
+    let wanted = "diverges at call 1 of 6: expected `send 0` on `orders` by `clerk` at src/shop.rs:15, \
+                  came nothing for 25 ms, while `recv 1` on `orders` by `audit` waited";
+    assert_eq!(gate.outcome().to_string(), format!("{wanted}{NAME_TASKS}"));
+}
+
+#[test]
+#[cfg_attr(target_family = "wasm", ignore = "WebAssembly has no threads")]
+fn a_thread_that_keeps_the_turn_away_waits_for_a_short_time() {
+    let gate = gate_of(JOURNAL, NAMES, Duration::from_secs(10));
+    make_first(&gate, 2);
+    // The turn is the clerk's, who has called on this thread.
+    make(&gate, call(AUDIT, 0, Operation::TryRecv, 1));
+    let wanted = "diverges at call 3 of 6: expected `modify 0` on channel 1 by `clerk` at src/shop.rs:15, \
+                  came nothing for 250 ms, while `try-recv 1` on `orders` by `audit` waited";
+    assert_eq!(gate.outcome().to_string(), wanted);
+}
+
+#[test]
+#[cfg_attr(target_family = "wasm", ignore = "WebAssembly has no threads")]
+fn a_call_is_no_call_of_the_same_handle_of_another_channel() {
+    let journal = "ttd-journal 2\nbroadcast 4\nbroadcast 4\nsteps\n\
+        1 0 0 send 0 0 = sent 1\n2 0 1 send 0 0 = sent 1\nend\n";
+    let gate = gate_of(journal, NAMES, Duration::from_millis(5));
+    make(&gate, call(CLERK, 1, Operation::Send, 0));
+    let wanted = "diverges at call 1 of 2: expected `send 0` on `orders` by `clerk` at src/shop.rs:15, \
+                  came `send 0` on channel 1 by `clerk`";
+    assert_eq!(gate.outcome().to_string(), wanted);
 }
 
 /// What is said where tasks have no names.

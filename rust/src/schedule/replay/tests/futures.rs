@@ -1,12 +1,16 @@
 //! Futures that wait before a gate, and polls that are held back there.
 
 use super::{
-    AUDIT, CLERK, JOURNAL, NAMES, PATIENT, call, gate, gate_of, make, make_first, poll, told,
+    AUDIT, CLERK, JOURNAL, NAMES, PATIENT, call, gate, gate_of, gate_without_helper, make,
+    make_first, ordered, poll, told,
 };
 use crate::channels::turns::Turns;
 use crate::run::operation::Operation;
 use std::sync::atomic::Ordering;
+use std::sync::mpsc::Receiver;
 use std::task::Context;
+use std::thread;
+use std::time::Duration;
 
 #[test]
 #[cfg_attr(target_family = "wasm", ignore = "WebAssembly has no threads")]
@@ -102,4 +106,91 @@ fn a_poll_by_which_that_of_the_turn_is_made_is_not_held_back() {
     assert!(!gate.holds("clerk", None, &context));
     assert!(!gate.holds("audit", None, &context));
     assert!(gate.holds("clerk", None, &context));
+}
+
+/// Whether a task is woken. A machine under load has half a minute to do so.
+fn is_woken(woken: &Receiver<String>) -> bool {
+    woken.recv_timeout(Duration::from_secs(30)).is_ok()
+}
+
+#[test]
+#[cfg_attr(target_family = "wasm", ignore = "WebAssembly has no threads")]
+fn all_futures_that_wait_for_a_handle_are_woken_at_its_turn() {
+    let gate = gate();
+    let [(_, first, _first), (_, second, woken)] = [told(), told()];
+    let recv = call(AUDIT, 0, Operation::Recv, 1);
+    assert!(!poll(&gate, recv, &mut None, &first));
+    let mut ticket = None;
+    assert!(!poll(&gate, recv, &mut ticket, &second));
+    make_first(&gate, 1);
+    // The first is not polled again.
+    assert!(is_woken(&woken));
+    assert!(poll(&gate, recv, &mut ticket, &second));
+    assert_eq!(gate.outcome().calls_in_order(), 2);
+}
+
+#[test]
+#[cfg_attr(target_family = "wasm", ignore = "WebAssembly has no threads")]
+fn a_future_is_woken_where_another_call_gives_the_turn_back() {
+    let gate = gate();
+    make_first(&gate, 1);
+    let (_, waker, woken) = told();
+    let (recv, mut ticket) = (call(AUDIT, 0, Operation::Recv, 1), None);
+    let channel = ordered(&gate);
+    let permit = channel.pass(recv, &|| false);
+    assert!(!poll(&gate, recv, &mut ticket, &waker));
+    drop(permit);
+    assert!(is_woken(&woken));
+    assert!(poll(&gate, recv, &mut ticket, &waker));
+    assert_eq!(gate.outcome().calls_in_order(), 2);
+}
+
+#[test]
+#[cfg_attr(target_family = "wasm", ignore = "WebAssembly has no threads")]
+fn a_future_that_is_polled_again_has_waited_since_its_first_poll() {
+    let gate = gate_without_helper(JOURNAL, PATIENT);
+    let (_, waker, _woken) = told();
+    let (recv, mut ticket) = (call(AUDIT, 0, Operation::Recv, 1), None);
+    let since = || {
+        let state = gate.entrance.lock();
+        state.waiters.values().next().map(|waiter| waiter.since)
+    };
+    assert!(!poll(&gate, recv, &mut ticket, &waker));
+    let first = since().unwrap();
+    while gate.entrance.lock().clock.since(first).is_zero() {
+        thread::yield_now();
+    }
+    assert!(!poll(&gate, recv, &mut ticket, &waker));
+    assert_eq!(since(), Some(first));
+}
+
+#[test]
+#[cfg_attr(target_family = "wasm", ignore = "WebAssembly has no threads")]
+fn a_poll_that_is_let_go_is_held_back_at_the_next_turn_of_another() {
+    let gate = gate_without_helper(JOURNAL, PATIENT);
+    let (_, waker, _woken) = told();
+    let context = Context::from_waker(&waker);
+    make_first(&gate, 1);
+    assert!(gate.holds("clerk", None, &context));
+    // All threads sleep.
+    gate.look_after_futures(&mut gate.entrance.lock(), true);
+    assert!(!gate.holds("clerk", None, &context));
+    make(&gate, call(AUDIT, 0, Operation::Recv, 1));
+    make(&gate, call(CLERK, 1, Operation::Modify, 0));
+    assert!(gate.holds("clerk", None, &context));
+}
+
+#[test]
+#[cfg_attr(target_family = "wasm", ignore = "WebAssembly has no threads")]
+fn a_future_past_its_last_call_is_held_back_while_it_has_a_handle() {
+    let (_, waker, _woken) = told();
+    let context = Context::from_waker(&waker);
+    let gate = gate_without_helper(JOURNAL, PATIENT);
+    make_first(&gate, 5);
+    assert!(gate.holds("audit", None, &context));
+    let journal = JOURNAL.replace("6 0 0 drop 0", "6 1 0 drop 1 = dropped\n7 0 0 drop 0");
+    let gate = gate_without_helper(&journal, PATIENT);
+    make_first(&gate, 5);
+    make(&gate, call(AUDIT, 0, Operation::Drop, 1));
+    assert!(!gate.holds("audit", None, &context));
 }

@@ -8,7 +8,7 @@ use Rattle.rw_seat.specs.HandOffs.{HandSeat}
 use Rattle.rw_seat.specs.Journals.{IsIn, IsQuiet}
 use Rattle.rw_seat.specs.Rule.{Fits}
 use Rattle.rw_seat.proofs.Journals.{in_left}
-use Rattle.rw_seat.proofs.Dealing.{each_popped}
+use Rattle.rw_seat.proofs.Splitting.{each_popped}
 use Rattle.rw_seat.proofs.Steps.{joins}
 use Rattle.rw_seat.proofs.Closes.{in_popped, all_popped, in_rest, known_fits, known_joined, known_one, ended, all_none, none_in}
 use Rattle.rw_seat.proofs.hand_off.HandOff.close.Goals as goal

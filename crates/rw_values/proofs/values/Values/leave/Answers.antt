@@ -1,10 +1,9 @@
-use Rattle.std.proofs.Common.{◌≡◌, ◌∙◌, ap, sym, subst, arith, ◌-◌, ◌≤◌, ◌<◌, ◌+◌, ◌++◌, ◌∷◌, [], length, take, drop}
-use Rattle.std.specs.Prelude.{All, min, vec_capacity}
+use Rattle.std.proofs.Common.{◌≡◌, ◌∙◌, ap, sym, subst, arith, ◌-◌, ◌<◌, ◌++◌, ◌∷◌, [], length, take, drop}
+use Rattle.std.specs.Prelude.{All, vec_capacity}
 use Rattle.std.specs.Option.{option_to_list}
 use Rattle.std.proofs.lemmas.List.{append-nil}
 use Rattle.rw_values.specs.Stored.{Store, Awaits, IsAwaited, all_given, given_of, kept_at, with_received}
-use Rattle.rw_values.proofs.Cells.{length_rotation}
-use Rattle.rw_values.proofs.Leaving.{kept_from, left_none, awaits_left, left_at, left_next, given_next, room_next, place_is, given_all, left_all}
+use Rattle.rw_values.proofs.Leaving.{begins, kept_from, left_none, awaits_left, left_at, left_next, given_next, room_next, place_is, given_all, left_all}
 use Rattle.rw_values.proofs.values.Values.leave.Goals as goal
 use Rattle.rw_values.proofs.values.Values.leave.Goals.{in-Some, in-None}
 
@@ -24,37 +23,29 @@ receive-requires g c =
     let s = c.args.self.now in
     let from = c.self.inside.next - c.min.result in
     let number = c.loop-number.number in
-    let next : c.self.inside.next ≡ s.next = ap (λ (t : Store _). t.next) c.self.view_is in
-    let as_long : length s.kept ≡ length c.self.inside.cells.items =
-    ap (λ (t : Store _). length t.kept) (sym c.self.view_is) ∙ length_rotation c.self.inside.first c.self.inside.cells.items in
-    let numbered : length s.kept ≤ s.next = omega (arith, next, as_long, c.self.invariant.numbered) in
-    let from_is : from ≡ s.next - min c.args.unread (length s.kept) = omega (arith, next, as_long, c.len.ensures, c.min.ensures) in
-    let kept : s.next ≤ from + length s.kept = omega (arith, from_is) in
-    let sent : number < s.next = omega (arith, next, c.loop-number-test.true) in
+    let all : c.len.result ≡ length c.self.inside.cells.items = omega (arith, c.len.ensures) in
+    let at = begins s _ _ _ _ c.args.unread _ c.min.result _ c.self.view_is c.self.invariant.numbered all c.min.ensures in
+    let sent : number < s.next = omega (arith, at.next_is, c.loop-number-test.true) in
     let awaited : All IsAwaited (kept_from s from) =
-    subst (λ n. All IsAwaited (drop n s.kept)) (sym (place_is s c.args.unread from numbered from_is)) c.requires in
+    subst (λ n. All IsAwaited (drop n s.kept)) (sym (place_is s c.args.unread from at.numbered at.from_is)) c.requires in
     subst (λ (t : Store _). Awaits t number) (sym c.loop-number.invariant.is)
-    (awaits_left s from number kept c.loop-number.auto.number sent awaited)
+    (awaits_left s from number at.kept c.loop-number.auto.number sent awaited)
 
 pub push_reserved-requires : goal.push_reserved-requires
 push_reserved-requires g c =
     let s = c.args.self.now in
     let from = c.self.inside.next - c.min.result in
     let number = c.loop-number.number in
-    let next : c.self.inside.next ≡ s.next = ap (λ (t : Store _). t.next) c.self.view_is in
-    let as_long : length s.kept ≡ length c.self.inside.cells.items =
-    ap (λ (t : Store _). length t.kept) (sym c.self.view_is) ∙ length_rotation c.self.inside.first c.self.inside.cells.items in
-    let numbered : length s.kept ≤ s.next = omega (arith, next, as_long, c.self.invariant.numbered) in
-    let from_is : from ≡ s.next - min c.args.unread (length s.kept) = omega (arith, next, as_long, c.len.ensures, c.min.ensures) in
-    let kept : s.next ≤ from + length s.kept = omega (arith, from_is) in
-    let sent : number < s.next = omega (arith, next, c.loop-number-test.true) in
-    let is = sym (ap given_of (left_at s from number kept c.loop-number.auto.number sent))
+    let all : c.len.result ≡ length c.self.inside.cells.items = omega (arith, c.len.ensures) in
+    let at = begins s _ _ _ _ c.args.unread _ c.min.result _ c.self.view_is c.self.invariant.numbered all c.min.ensures in
+    let sent : number < s.next = omega (arith, at.next_is, c.loop-number-test.true) in
+    let is = sym (ap given_of (left_at s from number at.kept c.loop-number.auto.number sent))
     ∙ (ap (λ (t : Store _). given_of (kept_at t number)) (sym c.loop-number.invariant.is) ∙ (sym c.receive.ensures.given ∙ c.in-Some.is)) in
     omega (
       arith,
       ap length c.loop-number.invariant.given_is,
       c.loop-number.invariant.room,
-      room_next s from number kept c.loop-number.auto.number sent c.in-Some.value is,
+      room_next s from number at.kept c.loop-number.auto.number sent c.in-Some.value is,
     )
 
 pub loop-number-preserved : goal.loop-number-preserved
@@ -62,18 +53,14 @@ loop-number-preserved g c =
     let s = c.args.self.now in
     let from = c.self.inside.next - c.min.result in
     let number = c.loop-number.number in
-    let next : c.self.inside.next ≡ s.next = ap (λ (t : Store _). t.next) c.self.view_is in
-    let as_long : length s.kept ≡ length c.self.inside.cells.items =
-    ap (λ (t : Store _). length t.kept) (sym c.self.view_is) ∙ length_rotation c.self.inside.first c.self.inside.cells.items in
-    let numbered : length s.kept ≤ s.next = omega (arith, next, as_long, c.self.invariant.numbered) in
-    let from_is : from ≡ s.next - min c.args.unread (length s.kept) = omega (arith, next, as_long, c.len.ensures, c.min.ensures) in
-    let kept : s.next ≤ from + length s.kept = omega (arith, from_is) in
-    let sent : number < s.next = omega (arith, next, c.loop-number-test.true) in
+    let all : c.len.result ≡ length c.self.inside.cells.items = omega (arith, c.len.ensures) in
+    let at = begins s _ _ _ _ c.args.unread _ c.min.result _ c.self.view_is c.self.invariant.numbered all c.min.ensures in
+    let sent : number < s.next = omega (arith, at.next_is, c.loop-number-test.true) in
     let there = c.loop-number.auto.number in
-    let is = sym (ap given_of (left_at s from number kept there sent))
+    let is = sym (ap given_of (left_at s from number at.kept there sent))
     ∙ (ap (λ (t : Store _). given_of (kept_at t number)) (sym c.loop-number.invariant.is) ∙ sym c.receive.ensures.given) in
-    let now = c.receive.ensures.kept ∙ (ap (λ t. with_received t number) c.loop-number.invariant.is ∙ left_next s from number kept there sent) in
-    let more = given_next s from number kept there sent in
+    let now = c.receive.ensures.kept ∙ (ap (λ t. with_received t number) c.loop-number.invariant.is ∙ left_next s from number at.kept there sent) in
+    let more = given_next s from number at.kept there sent in
     elim c.match-receive.branch [
       | in-Some w ↦ record {
         is = now;
@@ -96,21 +83,15 @@ returns-clause-given g c =
     let s = c.args.self.now in
     let from = c.self.inside.next - c.min.result in
     let number = c.loop-number.number in
-    let next : c.self.inside.next ≡ s.next = ap (λ (t : Store _). t.next) c.self.view_is in
-    let as_long : length s.kept ≡ length c.self.inside.cells.items =
-    ap (λ (t : Store _). length t.kept) (sym c.self.view_is) ∙ length_rotation c.self.inside.first c.self.inside.cells.items in
-    let numbered : length s.kept ≤ s.next = omega (arith, next, as_long, c.self.invariant.numbered) in
-    let from_is : from ≡ s.next - min c.args.unread (length s.kept) = omega (arith, next, as_long, c.len.ensures, c.min.ensures) in
-    c.loop-number.invariant.given_is ∙ given_all s c.args.unread from number numbered from_is (omega (arith, next, c.loop-number-test.false))
+    let all : c.len.result ≡ length c.self.inside.cells.items = omega (arith, c.len.ensures) in
+    let at = begins s _ _ _ _ c.args.unread _ c.min.result _ c.self.view_is c.self.invariant.numbered all c.min.ensures in
+    c.loop-number.invariant.given_is ∙ given_all s c.args.unread from number at.numbered at.from_is (omega (arith, at.next_is, c.loop-number-test.false))
 
 pub returns-clause-kept : goal.returns-clause-kept
 returns-clause-kept g c =
     let s = c.args.self.now in
     let from = c.self.inside.next - c.min.result in
     let number = c.loop-number.number in
-    let next : c.self.inside.next ≡ s.next = ap (λ (t : Store _). t.next) c.self.view_is in
-    let as_long : length s.kept ≡ length c.self.inside.cells.items =
-    ap (λ (t : Store _). length t.kept) (sym c.self.view_is) ∙ length_rotation c.self.inside.first c.self.inside.cells.items in
-    let numbered : length s.kept ≤ s.next = omega (arith, next, as_long, c.self.invariant.numbered) in
-    let from_is : from ≡ s.next - min c.args.unread (length s.kept) = omega (arith, next, as_long, c.len.ensures, c.min.ensures) in
-    c.loop-number.invariant.is ∙ left_all s c.args.unread from number numbered from_is (omega (arith, next, c.loop-number-test.false))
+    let all : c.len.result ≡ length c.self.inside.cells.items = omega (arith, c.len.ensures) in
+    let at = begins s _ _ _ _ c.args.unread _ c.min.result _ c.self.view_is c.self.invariant.numbered all c.min.ensures in
+    c.loop-number.invariant.is ∙ left_all s c.args.unread from number at.numbered at.from_is (omega (arith, at.next_is, c.loop-number-test.false))

@@ -1,4 +1,4 @@
--- Seats that are dealt one after another.
+-- Seats that are split off one after another.
 use Rattle.std.proofs.Common.{◌≡◌, ℕ, zero, suc, ◌+◌, ◌<◌, List, [], ◌∷◌, ◌++◌, map, refl, sym, ap, ◌∙◌, arith}
 use Rattle.std.specs.Prelude.{All, ◌-◌}
 use Rattle.std.proofs.lemmas.List.{map-append}
@@ -10,16 +10,16 @@ from_snoc : (n k m : ℕ) → m ≡ n + k → numbers_from n (suc k) ≡ numbers
 from_snoc n zero m e = let same : n ≡ m = omega arith in ap (λ (x : ℕ). x ∷ []) same
 from_snoc n (suc k) m e = ap (λ (l : List ℕ). n ∷ l) (from_snoc (n + 1) k m (omega arith))
 
--- the next seat that is dealt
-pub deal_next : (n k all : ℕ) → n + k + 1 ≡ all → n < all - 1
+-- the next seat that is split off
+pub split_next : (n k all : ℕ) → n + k + 1 ≡ all → n < all - 1
     → (j : ℕ) × ((n + 1) + j + 1 ≡ all) × (numbers_from (n + 1) k ≡ (n + 1) ∷ numbers_from ((n + 1) + 1) j)
-deal_next n zero all e l = absurd (omega arith)
-deal_next n (suc k) all e l = (k, omega arith, refl)
+split_next n zero all e l = absurd (omega arith)
+split_next n (suc k) all e l = (k, omega arith, refl)
 
 -- seats made from the numbers 0 to n - 1, and the next
-pub dealt_more : {X : Type 0} (f : ℕ → X) (xs ys : List X) (x : X) (n : ℕ) → ys ≡ xs ++ x ∷ [] → xs ≡ map f (numbers_from 0 n) → x ≡ f n
+pub split_more : {X : Type 0} (f : ℕ → X) (xs ys : List X) (x : X) (n : ℕ) → ys ≡ xs ++ x ∷ [] → xs ≡ map f (numbers_from 0 n) → x ≡ f n
     → ys ≡ map f (numbers_from 0 (n + 1))
-dealt_more f xs ys x n is all new =
+split_more f xs ys x n is all new =
     is ∙ ((λ i. all i ++ new i ∷ []) ∙ (sym (map-append f (numbers_from 0 n) (n ∷ []))
     ∙ (ap (map f) (sym (from_snoc 0 n n (omega arith))) ∙ ap (λ (k : ℕ). map f (numbers_from 0 k)) {x = suc n} {y = n + 1} (omega arith))))
 
@@ -27,5 +27,5 @@ pub each_popped : {X : Type 0} (P : X → Type 0) (xs ys : List X) (x : X) → y
 each_popped P xs ys x is all here = All-same P ys (xs ++ x ∷ []) is (All-push P xs x all here)
 
 -- a fact of each seat that is made from a number
-pub each_dealt : {X : Type 0} (P : X → Type 0) (f : ℕ → X) (xs : List X) (ns : List ℕ) → xs ≡ map f ns → ((n : ℕ) → P (f n)) → All P xs
-each_dealt P f xs ns is each = All-same P xs (map f ns) is (All-map P f ns (λ k d low. each _))
+pub each_split : {X : Type 0} (P : X → Type 0) (f : ℕ → X) (xs : List X) (ns : List ℕ) → xs ≡ map f ns → ((n : ℕ) → P (f n)) → All P xs
+each_split P f xs ns is each = All-same P xs (map f ns) is (All-map P f ns (λ k d low. each _))

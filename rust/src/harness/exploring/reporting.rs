@@ -1,0 +1,234 @@
+//! What a session reports of a failing order: it is brought to few switches, tried again, and its
+//! files are put where they are looked for.
+
+use super::exchange::ExchangeSearch;
+use super::failing_order::FailingOrder;
+use super::passed::PassedRun;
+use super::process::By;
+use super::race::Race;
+use super::session::{FoundRun, Session};
+use super::settings::From;
+use super::shorten::{Failing, Shortening};
+use super::tries::TIME_OF_TRY;
+use crate::channels::lock::lock;
+use crate::channels::standard_error::say;
+use crate::harness::files;
+use crate::harness::program::Program;
+use crate::schedule::explore::{Order, Schedule};
+use std::path::{Path, PathBuf};
+use std::{fs, io};
+
+/// The orders that are tried where no run has passed.
+const OTHERS: [&str; 10] = [
+    "s", "r1", "r2", "r3", "p2.1.9", "p2.2.9", "p3.3.9", "o1", "o2", "o3",
+];
+
+impl Session {
+    /// Reports a failing run where none has recorded anything, so that nothing brings it back.
+    pub(super) fn report_nothing(&self, found: FoundRun) -> FailingOrder {
+        let (task, ran) = (found.task, found.ran);
+        let failure = ran.failure.unwrap_or_else(|| unreachable!("it has failed"));
+        let nothing = lock(&self.counts).nothing_in_words(&self.name, Some(&failure));
+        let said = self.without_folder(&ran.said, &ran.target);
+        say(&format!("{nothing}\n{}", said.trim_end()));
+        FailingOrder::without_schedule(&task.order, &failure)
+    }
+
+    /// Looks for the fewest switches, tries what brings the failure back, puts the files where they
+    /// are looked for, and reports all.
+    pub(super) fn report(&self, first: FoundRun) -> FailingOrder {
+        let (task, mut ran) = (first.task, first.ran);
+        let order = task.order.clone();
+        let failure = ran
+            .failure
+            .clone()
+            .unwrap_or_else(|| unreachable!("it has failed"));
+        let Some(schedule) = ran.schedule.take() else {
+            let found = FailingOrder::without_schedule(&order, &failure);
+            say(&format!(
+                "{}: {} failed: {}\n{}",
+                self.name, order, failure.0, ran.said
+            ));
+            return found;
+        };
+        let mut failing = Failing {
+            order,
+            schedule,
+            ran,
+        };
+        if !self.has_named_order() {
+            let shortening = Shortening::new(&self.program, 0, failure.clone());
+            failing = shortening.shorten(failing);
+        }
+        let mut found = FailingOrder::new(&failing, task, failure);
+        found.run = (first.runs, first.took);
+        let journal = journal_in(&failing.ran.target);
+        self.try_again(&failing, journal.as_deref(), &mut found);
+        // An order that is asked for by its name was told before.
+        if !found.is_by_chance() && !self.has_named_order() {
+            found.race = self.race_of(&failing, &found);
+        }
+        if let Some(journal) = &journal {
+            self.put(journal, &failing, &mut found);
+        }
+        let (counts, search) = (lock(&self.counts), lock(&self.search));
+        let asked = self.asked();
+        let lines = found.in_words(&self.name, asked.as_ref(), &counts, &search, &failing);
+        let mut lines = self.without_folder(&lines, &failing.ran.target);
+        if let (Some(named), Some(journal)) = (journal, &found.journal) {
+            lines = with_files_of(journal, &named, lines);
+        }
+        say(&lines);
+        found
+    }
+
+    fn has_named_order(&self) -> bool {
+        matches!(self.settings.from, From::Order(_))
+    }
+
+    /// Tries how often the journal brings a failure back, the choices, and the order by its name.
+    fn try_again(&self, failing: &Failing, journal: Option<&Path>, found: &mut FailingOrder) {
+        let failure = found.failure.clone();
+        found.by_journal = journal.map(|journal| self.tries(&By::Journal(journal), &failure));
+        let path = self.program.folder.join("found");
+        if fs::write(&path, failing.schedule.text()).is_ok() {
+            let order = found.following(&path);
+            found.by_schedule = self.tries(&By::Order(&order), &failure);
+        }
+        let order = found.order_again().clone();
+        found.by_order = self.tries(&By::Order(&order), &failure);
+        if found.is_by_chance() {
+            found.by_order = self.all_tries(&By::Order(&order), &failure, found.by_order);
+        }
+    }
+
+    /// Looks for the two steps that make the difference to a run that passes.
+    fn race_of(&self, failing: &Failing, found: &FailingOrder) -> Race {
+        let has_timers = failing.order.has_timers;
+        let nearest = lock(&self.passed)
+            .nearest(&failing.schedule.steps, has_timers)
+            .cloned();
+        let passed = match nearest.map_or_else(|| self.another(&failing.order), Ok) {
+            Ok(passed) => passed,
+            Err(tried) => return Race::NonePasses(tried),
+        };
+        let fails_each_time = found.by_schedule.failed == found.by_schedule.of;
+        let failure = found.failure.clone();
+        let search = ExchangeSearch::new(&self.program, failure, has_timers, fails_each_time);
+        search
+            .find(failing, &passed)
+            .map_or(Race::Unknown, Race::Exchange)
+    }
+
+    /// Returns a run that passes, by one of some other orders than this one, or how many were tried
+    /// of which none passes.
+    fn another(&self, failing: &Order) -> Result<PassedRun, usize> {
+        let has_timers = failing.has_timers;
+        let mut tried = 0;
+        for text in OTHERS {
+            let order = Order::read(text).map(|order| Order {
+                has_timers,
+                ..order
+            });
+            let Some(order) = order.filter(|order| order != failing) else {
+                continue;
+            };
+            tried += 1;
+            let ran = self.program.run(&By::Order(&order), 0, TIME_OF_TRY);
+            let ran = ran.ok().filter(|ran| ran.failure.is_none());
+            if let Some(schedule) = ran.and_then(|ran| ran.schedule) {
+                return Ok(PassedRun {
+                    steps: schedule.steps,
+                    has_timers,
+                });
+            }
+        }
+        Err(tried)
+    }
+
+    /// Puts the files of a run where those of its test are. The schedule is among them where it
+    /// brings the failure back more often than the journal.
+    fn put(&self, journal: &Path, failing: &Failing, found: &mut FailingOrder) {
+        let Ok(below) = journal.strip_prefix(&failing.ran.target) else {
+            return;
+        };
+        let path = Program::this().target_folder.join(below);
+        let by_journal = found.by_journal.unwrap_or_default();
+        let is_better = found.by_schedule.are_more_than(by_journal);
+        match replace(&path, journal, is_better.then_some(&failing.schedule)) {
+            Ok(path) => {
+                found.schedule = is_better.then(|| path.with_extension("schedule"));
+                found.journal = Some(path);
+            }
+            Err(error) => say(&format!("{} isn't written: {error}", path.display())),
+        }
+    }
+
+    /// Returns lines in which the files of a run are those that were put in their place.
+    fn without_folder(&self, lines: &str, target: &Path) -> String {
+        let folder = self.program.folder.file_name();
+        let part = folder.and_then(|folder| Some(Path::new(folder).join(target.file_name()?)));
+        match part {
+            Some(part) => lines.replace(&format!("{}/", part.display()), ""),
+            None => lines.to_string(),
+        }
+    }
+}
+
+/// Replaces the files of a test, of which this is the journal, by those of a run with another one.
+/// Returns the journal that was written.
+fn replace(path: &Path, of_run: &Path, schedule: Option<&Schedule>) -> io::Result<PathBuf> {
+    let beside = |extension| match fs::read(of_run.with_extension(extension)) {
+        Err(error) if error.kind() == io::ErrorKind::NotFound => Ok(None),
+        read => read.map(Some),
+    };
+    let journal = fs::read_to_string(of_run)?;
+    let (names, page) = (beside("names")?, beside("html")?);
+    let schedule = schedule.map(|schedule| schedule.text_beside(&journal));
+    files::replace(
+        path,
+        0,
+        &[
+            ("journal", Some(journal.as_bytes())),
+            ("names", names.as_deref()),
+            ("html", page.as_deref()),
+            ("schedule", schedule.as_deref().map(str::as_bytes)),
+        ],
+    )
+}
+
+/// Returns lines in which the files of a test are those of this journal, which may be another one
+/// than they say.
+fn with_files_of(journal: &Path, named: &Path, lines: String) -> String {
+    let stem = |path: &Path| Some(path.file_stem()?.to_string_lossy().into_owned());
+    match (stem(named), stem(journal)) {
+        (Some(before), Some(own)) if before != own => {
+            ["journal", "html"].iter().fold(lines, |lines, extension| {
+                lines.replace(
+                    &format!("/{before}.{extension}"),
+                    &format!("/{own}.{extension}"),
+                )
+            })
+        }
+        _ => lines,
+    }
+}
+
+/// Returns the journal that a run has written below this folder.
+pub(super) fn journal_in(folder: &Path) -> Option<PathBuf> {
+    let mut folders = vec![folder.to_path_buf()];
+    while let Some(folder) = folders.pop() {
+        for entry in fs::read_dir(folder).ok()?.flatten() {
+            let path = entry.path();
+            if path.is_dir() {
+                folders.push(path);
+            } else if path
+                .extension()
+                .is_some_and(|extension| extension == "journal")
+            {
+                return Some(path);
+            }
+        }
+    }
+    None
+}

@@ -1,0 +1,96 @@
+//! How time passes in a run: where it is chosen, and where everybody waits.
+
+use super::ExplorerState;
+use crate::channels::actors::is_over_facade;
+use crate::schedule::explore::threads::{SOON, Sleeper};
+use std::thread;
+use std::time::{Duration, Instant};
+
+/// How long a thread runs, in time of a processor, before the others no longer wait for it.
+const PATIENCE_RUNNING: Duration = Duration::from_millis(12);
+
+/// How much time choices let pass at most where nobody says how long timers are: a limit may be one
+/// of those.
+const TIME_OF_CHOICES: Duration = Duration::from_millis(150);
+
+impl ExplorerState {
+    pub(super) fn is_time_near(&self, rest: &[Sleeper]) -> bool {
+        let is_near = |sleeper: &Sleeper| !self.vain.contains(sleeper) && sleeper.is_soon();
+        let is_sleeper_near = || self.clock.chosen() < TIME_OF_CHOICES && rest.iter().any(is_near);
+        self.is_time_offered && (self.clock.offered().is_some() || is_sleeper_near())
+    }
+
+    /// Lets the next timer end of the run's clock. Without one, waits until one of those who sleep
+    /// does something else. A wait that doesn't end is no longer offered.
+    pub(super) fn let_time_pass(&mut self, rest: &[Sleeper]) {
+        if let Some(time) = self.clock.offered() {
+            // No timer ends before its time has passed on the machine's clock, too.
+            thread::sleep(time);
+            self.clock.pass(time);
+            return self.end_timers();
+        }
+        let began = Instant::now();
+        self.wait_for_sleepers(rest, began);
+        self.clock.pass(began.elapsed().min(SOON));
+    }
+
+    fn wait_for_sleepers(&mut self, rest: &[Sleeper], began: Instant) {
+        while began.elapsed() < SOON + SOON / 5 {
+            thread::sleep(Duration::from_micros(50));
+            match self.look() {
+                Some(now) if now == rest => (),
+                _ => return,
+            }
+        }
+        let timed = rest.iter().filter(|sleeper| sleeper.is_timed());
+        self.vain.extend(timed);
+    }
+
+    /// Lets the clock go on if nobody can be let go, and all wait or one runs on. Those timers end
+    /// whose time has come.
+    pub(in crate::schedule::explore) fn keep_time(&mut self) {
+        let moves = self.moves;
+        match self.rest() {
+            Some(rest) if self.candidates(&rest).is_empty() => {
+                self.clock.everybody_waits(moves, Instant::now());
+            }
+            Some(_) => self.clock.somebody_goes_on(),
+            None => match self.runs_on() {
+                Some(ran) => self.clock.one_runs_on(moves, ran),
+                None => self.clock.somebody_goes_on(),
+            },
+        }
+        self.end_timers();
+    }
+
+    /// Has those woken who wait for timers that have ended.
+    fn end_timers(&mut self) {
+        let ended = self.clock.ended();
+        if !ended.is_empty() {
+            self.moved();
+            self.wakers.extend(ended);
+        }
+    }
+
+    /// Returns how long a thread that doesn't stand has run since something moved, if it has for
+    /// long.
+    pub(in crate::schedule::explore) fn runs_on(&mut self) -> Option<Duration> {
+        let blocked = self.stands.iter();
+        let blocked = blocked.filter(|stand| stand.is_blocking() && !stand.is_chosen);
+        let blocked: Vec<_> = blocked.map(|stand| stand.thread).collect();
+        let is_left_out = |thread| blocked.contains(&thread);
+        let ran = self.threads.longest_run(self.moves, is_left_out);
+        Some(ran).filter(|ran| *ran > PATIENCE_RUNNING)
+    }
+
+    /// Returns for how many milliseconds timers of the machine's clock have gone on while tasks
+    /// were held or ran, if there may be any.
+    pub(in crate::schedule::explore) fn lost(&self) -> u32 {
+        let may_be_unseen = self.schedule.was_busy && !is_over_facade();
+        if !self.has_sleepers && !may_be_unseen {
+            return 0;
+        }
+        let lost = self.began.elapsed().saturating_sub(self.clock.now());
+        u32::try_from(lost.as_millis()).unwrap_or(u32::MAX)
+    }
+}

@@ -1,0 +1,7 @@
+//! Twenty-five further programs with a receiver that is late, each of which fails, with other
+//! resources and in other shapes than those of the files beside. They and their reasons, in
+//! `reasons-third`, were written down before any was run. A comment `@NAME` marks a line that a
+//! reason names.
+
+mod resources;
+mod tasks;

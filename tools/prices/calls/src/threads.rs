@@ -1,0 +1,74 @@
+//! Senders and receivers on threads of their own: `prices threads COUNT REPEATS`.
+
+use crate::cases::Side;
+use std::hint::black_box;
+use std::thread;
+use yovanelum::block_on;
+
+/// How many senders and how many receivers there are.
+const CASES: [(&str, usize, usize); 3] = [("1-1", 1, 1), ("1-8", 1, 8), ("8-1", 8, 1)];
+
+/// How many values a channel retains. A receiver that is slower loses some.
+const RETAINED: usize = 1024;
+
+macro_rules! threads_of {
+    ($name:ident, $module:path) => {
+        /// Sends `count` values in all, which the receivers receive until the channel is closed.
+        fn $name(senders: usize, receivers: usize, count: u64) {
+            use $module::{broadcast, broadcast::error::RecvError};
+            let (tx, rx) = broadcast::channel(RETAINED);
+            let mut all = vec![rx];
+            all.resize_with(receivers, || tx.subscribe());
+            thread::scope(|scope| {
+                for mut rx in all {
+                    scope.spawn(move || {
+                        while !matches!(black_box(block_on(rx.recv())), Err(RecvError::Closed)) {}
+                    });
+                }
+                for _ in 0..senders {
+                    let tx = tx.clone();
+                    scope.spawn(move || {
+                        for value in 0..count / senders as u64 {
+                            black_box(tx.send(value).unwrap());
+                        }
+                    });
+                }
+                drop(tx);
+            });
+        }
+    };
+}
+
+threads_of!(of_tokio, tokio::sync);
+threads_of!(of_crate, yovanelum);
+
+/// The nanoseconds of processors that this process has taken. They are counted by hundredths of a
+/// second.
+fn taken() -> f64 {
+    let line = std::fs::read_to_string("/proc/self/stat").expect("Linux");
+    // The name of the program, which may have spaces, is in parentheses.
+    let (_, behind) = line.rsplit_once(')').expect("a name");
+    let fields: Vec<&str> = behind.split_whitespace().collect();
+    let ticks = |field: usize| fields[field].parse::<f64>().expect("a number");
+    (ticks(11) + ticks(12)) * 1e7
+}
+
+/// The least of several times of processors, for each value that is sent.
+pub fn print_threads(sides: &[Side], count: u64, repeats: u32) {
+    for (case, senders, receivers) in CASES {
+        let mut least = vec![f64::INFINITY; sides.len()];
+        for _ in 0..repeats {
+            for (least, side) in least.iter_mut().zip(sides) {
+                let before = taken();
+                side.run(
+                    || of_tokio(senders, receivers, count),
+                    || of_crate(senders, receivers, count),
+                );
+                *least = least.min((taken() - before) / count as f64);
+            }
+        }
+        for (side, least) in sides.iter().zip(least) {
+            println!("{case} {} {least:.0}", side.name());
+        }
+    }
+}
