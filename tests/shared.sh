@@ -50,11 +50,25 @@ add_passed() {
   while read -r number; do passed=$((passed + number)); done < <(sed -n 's/^test result: .* \([0-9]*\) passed; .*/\1/p' <<<"$1")
 }
 
-# Counts a failure, and prints what failed.
+# Counts a failure, and prints what failed, and what that printed.
 fail() {
   failed=$((failed + 1))
-  printf '%s: %s\n' "${0#"$top/"}" "$*"
+  printf '%s: %s\n' "${0#"$top/"}" "$1"
+  [ $# -eq 1 ] || printf '%s\n' "${@:2}"
+  tell_failure "$@"
 }
+
+# Appends what failed, and the last lines that it printed, to the file that the variable YOVANELUM_FAILURES names, if any.
+tell_failure() {
+  [ -n "${YOVANELUM_FAILURES-}" ] || return 0
+  {
+    printf '%s: %s\n' "${0#"$top/"}" "$1"
+    [ $# -eq 1 ] || tail -n 30 <<<"$2"
+  } >>"$YOVANELUM_FAILURES"
+}
+
+# Has the script print once more, before its sum, what failed in the scripts that it runs: they may have printed much since.
+gather_failures() { export YOVANELUM_FAILURES=${YOVANELUM_FAILURES:-$work/failures}; }
 
 # Counts a command that has no count of its own, and prints its output if it fails.
 step() {
@@ -63,21 +77,28 @@ step() {
   if said=$("$@" 2>&1); then
     passed=$((passed + 1))
   else
-    fail "failed: $*"
-    printf '%s\n' "$said"
+    fail "failed: $*" "$said"
   fi
   tell_spent "$@"
 }
 
 # Runs a command whose last line is 'N passed, M failed', perhaps with ', K skipped', adds that, and prints how long it took.
 count() {
-  local since=$SECONDS last spent
+  local since=$SECONDS said last spent failures
   read_spent
-  last=$("$@" | tee >(cat >&2) | tail -n 1)
+  failures=$(mktemp "$work/failures.XXXXXX") || exit 70
+  said=$(YOVANELUM_FAILURES=$failures "$@" | tee >(cat >&2) | tail -n 30)
+  last=${said##*$'\n'}
   if [[ $last =~ ^([0-9]+)\ passed,\ ([0-9]+)\ failed(,\ ([0-9]+)\ skipped)? ]]; then
     passed=$((passed + BASH_REMATCH[1]))
     failed=$((failed + BASH_REMATCH[2]))
     skipped=$((skipped + ${BASH_REMATCH[4]:-0}))
+    # A script has told what failed in it.
+    if [ -s "$failures" ]; then
+      cat "$failures" >>"${YOVANELUM_FAILURES-/dev/null}"
+    elif [ "${BASH_REMATCH[2]}" -gt 0 ]; then
+      tell_failure "$*" "$said"
+    fi
   else
     fail "$* gave no count; its last line: $last"
   fi
@@ -180,6 +201,7 @@ install_program() {
 # Prints the sum, which is a script's last line, and ends with status 0 if nothing failed. What was left out isn't counted as passed.
 finish() {
   local left=''
+  [ ! -s "$work/failures" ] || { echo 'What failed:'; cat "$work/failures"; }
   [ "$skipped" -eq 0 ] || left=", $skipped skipped"
   echo "$passed passed, $failed failed$left"
   [ "$failed" -eq 0 ]

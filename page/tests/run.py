@@ -81,15 +81,15 @@ LONGER = {accounts.cause_in_whole, layout.nothing_over_anything, against.same_as
 OF_FAILING = {*accounts.TESTS, *against.TESTS, *failing.TESTS, *layout.TESTS, *search.TESTS, *story.TESTS, *first_look.TESTS, *faults.TESTS, jumps.report_as_markdown}
 
 
-def passes(name, run):
-    start = time.monotonic()
+def fault_of(name, run):
+    """Runs a test. Returns nothing if it passed, and else what it failed with."""
+    start, fault = time.monotonic(), ""
     try:
         run()
     except Exception:
-        print(f"page {name}: failed\n{traceback.format_exc()}", flush=True)
-        return False
-    print(f"page {name}: passed, {time.monotonic() - start:.1f} s", flush=True)
-    return True
+        fault = f"page {name}: failed\n{traceback.format_exc()}"
+    print(f"page {name}: {'failed' if fault else 'passed'}, {time.monotonic() - start:.1f} s", flush=True)
+    return fault
 
 
 def in_tab(test, browser, journals):
@@ -119,22 +119,24 @@ def named(word):
 
 
 def run_all(program, tests):
-    """Runs the tests. Returns how many there were, and how many passed."""
+    """Runs the tests. Returns what each failed with, in order, or nothing where it passed."""
     journals = runs.journals()
     browser = Browser(program)
     try:
-        passed = [passes(test.__name__, lambda: in_tab(test, browser, journals)) for test in tests]
+        return [fault_of(test.__name__, lambda: in_tab(test, browser, journals)) for test in tests]
     finally:
         browser.close()
-    return len(passed), sum(passed)
 
 
 def main():
     program, *words = sys.argv[1:]
     tests = [test for word in words for test in named(word)] if words else TESTS
-    count, passed = run_all(program, tests)
-    print(f"{passed} passed, {count - passed} failed")
-    sys.exit(passed < count)
+    faults = run_all(program, tests)
+    failed = [fault for fault in faults if fault]
+    # What failed comes last, where it is seen.
+    print("".join(failed), end="")
+    print(f"{len(faults) - len(failed)} passed, {len(failed)} failed")
+    sys.exit(bool(failed))
 
 
 main()
