@@ -183,9 +183,9 @@ impl Program {
         command
     }
 
-    /// Replays a journal, or what is beside it. One that hangs is ended.
-    pub fn replayed(&self, journal: &str) -> Replayed {
-        let mut command = self.command_that_ends(3);
+    /// Replays a journal, or what is beside it. One that hangs is ended, soon if it is to hang.
+    pub fn replayed(&self, journal: &str, hangs: bool) -> Replayed {
+        let mut command = self.command_that_ends(if hangs { 3 } else { 60 });
         let ran = command.env("YOVANELUM_REPLAY", journal).output().unwrap();
         Replayed {
             code: ran.status.code(),
@@ -247,9 +247,11 @@ fn assert_brought_back(name: &'static str, lines: &[&str], times: u64) -> String
     let journal = text(&json, "journal");
     assert!(Path::new(&journal).exists(), "{json}");
     let hangs = hangs(&json);
-    let replays = [(); 3].map(|()| program.replayed(&journal));
-    let failed = replays.iter().filter(|replay| replay.fails(hangs)).count();
-    assert!(failed == 3 || failed == 2 && times < 10, "{failed} of 3");
+    // What doesn't come back in each of ten comes back the more seldom, the busier the machine is.
+    let (most, wanted) = if times == 10 { (3, 3) } else { (10, 2) };
+    let replays = (0..most).map(|_| program.replayed(&journal, hangs));
+    let failed = replays.filter(|replay| replay.fails(hangs)).take(wanted);
+    assert_eq!(failed.count(), wanted, "of {most}");
     let again = format!(
         "again:  YOVANELUM_EXPLORE=1 YOVANELUM_EXPLORE_FROM={} ",
         text(&json, "order")

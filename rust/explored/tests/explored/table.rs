@@ -129,7 +129,7 @@ fn replays(program: &Program, journal: &str, hangs: bool) -> usize {
     let failed = || {
         let own = std::iter::from_fn(|| {
             let is_next = next.fetch_add(1, Ordering::Relaxed) < REPLAYS;
-            is_next.then(|| program.replayed(journal).fails(hangs))
+            is_next.then(|| program.replayed(journal, hangs).fails(hangs))
         });
         own.filter(|fails| *fails).count()
     };
