@@ -25,13 +25,17 @@ struct Limit {
     /// The least size at which the row has what it looks at.
     least: u64,
     most: u64,
-    /// How many seconds of a processor one run may take: several times as many as it took where others ran beside it.
+    /// How many seconds of a processor one run takes at most where others run beside it.
     seconds: u64,
     /// Does as much as this, and returns whether that isn't too much.
     takes: fn(u64) -> bool,
     /// Whether more can be asked for.
     has_more: bool,
 }
+
+/// How many times as long a run may take. A processor that does the work of other machines too has taken twice as long, and a body that is quadratic takes
+/// a hundred times as long.
+const BUSY: u64 = 4;
 
 /// The time that this thread has run on a processor, in nanoseconds.
 fn spent() -> u64 {
@@ -47,7 +51,7 @@ fn holds(limit: &Limit) {
         assert!((limit.takes)(size), "{} refuses {size}", limit.function);
         let seconds = (spent() - before) / 1_000_000_000;
         assert!(
-            seconds < limit.seconds,
+            seconds < BUSY * limit.seconds,
             "{} takes {seconds} s",
             limit.function
         );
