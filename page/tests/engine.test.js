@@ -127,7 +127,7 @@ test("a truncated journal has its whole lines", () => {
 });
 
 test("a text is found in the words of calls and replies, behind a lead by the real numbers", () => {
-  const nothing = { actors: new Uint8Array(2), channels: new Uint8Array(1), locations: new Uint8Array(), handles: [[]], values: [[]] };
+  const nothing = { names: "", actors: new Uint8Array(2), channels: new Uint8Array(1), located: new Uint8Array(), handles: [[]], values: [[]] };
   const entries = ["0 0 subscribe 0 = new 2", "0 0 send 0 7 = sent 2", "1 0 try-recv 2 = value 7", "1 0 receiver-count 0 = count 2", "1 0 receiver-len 1 = count 1"];
   const find = (engine, text, more = {}) => [...hitsOf(engine, { text, ...nothing, ...more })];
   const engine = opened(journalOf(["broadcast 2"], entries));
@@ -135,20 +135,38 @@ test("a text is found in the words of calls and replies, behind a lead by the re
   const none = "nothing has it";
   assert.deepEqual([find(engine, none, { actors: Uint8Array.of(0, 1) }), find(engine, none, { handles: [[2n]] }), find(engine, none, { values: [[7n]] }),
     find(engine, none, { channels: Uint8Array.of(1) })], [[3, 4, 5], [3], [2, 3], [1, 2, 3, 4, 5]]);
-  const names = { calls: { 0: [null, 0, 1, null] }, locations: [["a.rs", 1, 1], ["b.rs", 2, 2]], waited: { 0: [3] } };
-  const named = opened(journalOf(["broadcast 2"], entries), names);
-  assert.deepEqual([find(named, none, { locations: Uint8Array.of(0, 1) }), find(named, "closed 0"), find(named, "receiver-count")], [[3], [4], []]);
+  assert.deepEqual(find(engine, none, { located: Uint8Array.of(0, 0, 0, 1, 0, 0) }), [3]);
+  const waited = JSON.stringify({ waited: { 0: [3] } });
+  assert.deepEqual([find(engine, "closed 0", { names: waited }), find(engine, "receiver-count", { names: waited })], [[4], []]);
   const window = { trigger: "call", reason: "asked", at: null, lead: 1, channels: { 0: { lead: 1, calls: 90, sent: 40, handles: [0, null, 55], lags: {} } } };
-  const dump = opened(journalOf(["broadcast 2"], entries), { version: 4, window });
-  assert.deepEqual(["new", "try-recv 55", "receiver-len 1 of the lead"].map(text => find(dump, text)), [[], [3], [5]]);
+  const names = JSON.stringify({ version: 4, window });
+  assert.deepEqual(["new", "try-recv 55", "receiver-len 1 of the lead"].map(text => find(engine, text, { names })), [[], [3], [5]]);
+  assert.deepEqual(find(engine, none, { names, located: Uint8Array.of(0, 1, 1) }), [2], "what is in the lead is no hit");
 });
 
 test("a text is found in a line that differs from an earlier one in its numbers or in a flag", () => {
-  const nothing = { actors: new Uint8Array(1), channels: new Uint8Array(2), locations: new Uint8Array(), handles: [[], []], values: [[], []] };
+  const nothing = { names: "", actors: new Uint8Array(1), channels: new Uint8Array(2), located: new Uint8Array(), handles: [[], []], values: [[], []] };
   const entries = ["0 0 send 0 7 = sent 1", "0 0 send 0 12 = sent 1", "0 0 try-recv 1 = value 7", "0 0 try-recv 1 = value 12",
     "0 1 modify 0 3 no = told no", "0 1 modify 0 4 yes = told yes", "0 1 send 0 12 = stored"];
   const engine = opened(journalOf(["broadcast 2", "watch 0"], entries));
   const wanted = { "send 0 12": [2, 7], "e 12": [4], " 12": [2, 4, 7], no: [5], yes: [6], "told yes": [6], "3 n": [5], "send 0 3": [], 9: [], "12 = ": [], stored: [7], thumbnail: [] };
   const found = Object.fromEntries(Object.keys(wanted).map(text => [text, [...hitsOf(engine, { text, ...nothing })]]));
   assert.deepEqual(found, wanted);
+});
+
+test("any part of a line is found in all lines that have it, and nowhere else", () => {
+  const engine = builtEngine();
+  const values = [0, 1, 7, 12, 17, 70, 121, 1000, 2n ** 32n, 2n ** 64n - 1n];
+  const calls = values.flatMap((value, i) => [`0 0 send 0 ${value}`, `1 0 try-recv ${1 + i % 3}`, `1 0 subscribe 0`, `0 1 modify 0 ${value} ${i % 2 ? "yes" : "no"}`,
+    `0 1 send-replace 0 ${value}`, "1 1 has-changed 1", "1 1 update 1", `0 0 receiver-len ${1 + i % 11}`, `0 0 drop ${5 + i}`]);
+  const { journal } = openRun(engine, bytes(`broadcast 2\nwatch 0\nactors 2\n${calls.join("\n")}\n`), []);
+  const lines = new TextDecoder().decode(journal).split("\n").filter(line => /^\d/.test(line)).map(line => /^\d+ \d+ \d+ (.*) = (.*)$/.exec(line).slice(1));
+  assert.equal(lines.length, calls.length);
+  const nothing = { names: "", actors: new Uint8Array(2), channels: new Uint8Array(2), located: new Uint8Array(), handles: [[], []], values: [[], []] };
+  const parts = new Set(lines.flat().flatMap(part => Array.from(part, (_, from) => Array.from(part.slice(from), (_, i) => part.slice(from, from + i + 1))).flat()));
+  for (const text of [...parts, "00", "01", "1 0", "send 0 1 ", "sent 00", "99", "18446744073709551616"]) {
+    const wanted = lines.flatMap((of, i) => (of.some(part => part.includes(text)) ? [i + 1] : []));
+    assert.deepEqual([...hitsOf(engine, { text, ...nothing })], wanted, text);
+  }
+  assert.ok(parts.size > 300, parts.size);
 });

@@ -384,10 +384,18 @@ def check_account(name, page):
 
 
 def shown(line):
-    """A line of the account as the page shows it: without the backquotes around names, and with counts grouped. A call's number in snapshots isn't one."""
+    """A line of the account as the page shows it: without the backquotes around names, and with counts grouped, also of which value it was. A call's number in
+    snapshots isn't one."""
     line = re.sub(r"`([^`]+)`", r"\1", line)
     parts = re.split(r'("(?:[^"\\]|\\.)*")', line)
-    parts[::2] = [re.sub(r"\b\d{4,}\b(?![:-]|(?: to \d+)? in snapshots)", lambda count: f"{int(count[0]):,}", part) for part in parts[::2]]
+    parts[::2] = [re.sub(r"\b\d{4,}(?=(?:st|nd|rd|th)?\b)(?![:-]|(?: to \d+)? in snapshots)", lambda count: f"{int(count[0]):,}", part) for part in parts[::2]]
+    return "".join(parts)
+
+
+def gaps(line):
+    """A line with one space between its columns: a number that grows by its groups takes of the gap behind it. Texts of values are left as they are."""
+    parts = re.split(r'("(?:[^"\\]|\\.)*")', line)
+    parts[::2] = map(spaced, parts[::2])
     return "".join(parts)
 
 
@@ -406,11 +414,12 @@ ANSWER = """(() => {
 def check_answer_text(tab, account):
     """The page shows the account, open."""
     answer = tab.run(ANSWER)
+    answer["facts"] = [[gaps(line) for line in fact] for fact in answer["facts"]]
     window = [account["window"]["text"]] if "window" in account else []
     unknown = window + [f"not all is known: {'; '.join(account['unknown'])}"] if account["unknown"] else []
     others = unknown + ([account["nothing"]] if account["nothing"] else [])
     wanted = {
-        "isOpen": True, "facts": [[shown(line) for line in fact["text"]] for fact in account["facts"]],
+        "isOpen": True, "facts": [[gaps(shown(line)) for line in fact["text"]] for fact in account["facts"]],
         "waits": [shown(f"  {it['text']}") for it in account["waiting"]], "others": [shown(line) for line in others],
         "rest": account["rest"]["text"] and shown(account["rest"]["text"]),
         "folded": len(account["facts"]) - account["rest"]["after"],
@@ -458,7 +467,7 @@ def check_order(tab, name, page):
     if any(line.startswith("  ") and " since " in line for line in there) and "still waiting:" not in wanted:
         # A call of which a fact tells isn't listed again in print.
         there = there[:there.index("still waiting:")]
-    assert there == wanted, (there, wanted)
+    assert list(map(gaps, there)) == list(map(gaps, wanted)), (there, wanted)
     account = json.loads(why(page, "--json"))
     head = head_of(account["failed"]) if account["failed"] else hang_of(name, account) if name == HANGS else ""
     assert tab.run(HEAD) == head, (tab.run(HEAD), head)

@@ -1,9 +1,14 @@
 // A file of names whose texts and places stay in its bytes has the same names as one that is read as any JSON is.
 import assert from "node:assert";
 import { test } from "node:test";
-import { readTables } from "../src/run/packed_names.js";
+import { visible } from "../src/base/text.js";
+import { ReadTexts, readTables } from "../src/run/packed_names.js";
+import { Sought } from "../src/run/sought.js";
 
 const bytesOf = text => new TextEncoder().encode(text);
+const numbersWith = (values, channel, text) => Array.from(values.numbersWith(channel, new Sought(text)), String);
+// All texts of a channel by number, since each has the empty text.
+const tableOf = (values, channel) => Object.fromEntries(numbersWith(values, channel, "").map(number => [number, values.text(channel, number)]));
 const read = text => readTables(bytesOf(text));
 
 // Texts in the crate's form, with all that JSON escapes and letters of several bytes.
@@ -22,13 +27,13 @@ test("packed texts and places are those of the whole text as JSON", () => {
     assert.deepStrictEqual(others, { ...tables, values: {}, calls: {} });
     assert.deepStrictEqual(values.channels, Object.keys(VALUES));
     for (const [channel, texts] of Object.entries(VALUES)) {
-      assert.deepStrictEqual([values.table(channel), values.count(channel)], [texts, Object.keys(texts).length]);
+      assert.deepStrictEqual([tableOf(values, channel), values.count(channel)], [texts, Object.keys(texts).length]);
       for (const number of [...Object.keys(texts), "1", "3", "1000000000", "18446744073709551615", "00", ""]) {
         assert.strictEqual(values.text(Number(channel), number), texts[number], number);
       }
       for (const number of [0, 1, 2, 7, 999999999, 7n]) assert.strictEqual(values.text(channel, number), texts[number]);
     }
-    assert.deepStrictEqual([values.text(1, 0), values.table(1), values.count(1), values.text(0, undefined)], [undefined, {}, 0, undefined]);
+    assert.deepStrictEqual([values.text(1, 0), tableOf(values, 1), values.count(1), values.text(0, undefined)], [undefined, {}, 0, undefined]);
     const places = Object.fromEntries(Object.entries(calls).map(([channel, list]) => [channel, Array.from(list, it => REST.locations[it] ?? null)]));
     assert.deepStrictEqual(places, Object.fromEntries(Object.entries(CALLS).map(([channel, list]) => [channel, list.map(it => REST.locations[it] ?? null)])));
   }
@@ -67,7 +72,7 @@ test("a file that is cut anywhere, or has another byte, has the names of the who
   const outcome = make => { try { return make(); } catch (fault) { return fault.message; } };
   const flat = ({ tables, values, calls }) => ({
     ...tables,
-    ...values && { values: Object.fromEntries(values.channels.map(channel => [channel, values.table(channel)])) },
+    ...values && { values: Object.fromEntries(values.channels.map(channel => [channel, tableOf(values, channel)])) },
     ...calls && { calls: Object.fromEntries(Object.entries(calls).map(([channel, list]) => [channel, Array.from(list, it => (it === 2 ** 32 - 1 ? null : it))])) },
   });
   for (let at = 0; at < whole.length; at++) {
@@ -77,4 +82,18 @@ test("a file that is cut anywhere, or has another byte, has the names of the who
       assert.deepStrictEqual(outcome(() => flat(readTables(bytes))), outcome(() => JSON.parse(text)), text);
     }
   }
+});
+
+test("a text is found in the texts of values as they are shown, in any case of its letters", () => {
+  const texts = ["", "Order 12", "order \"12\"", "a \\ b", "\\\\\"", "\\", "n", "line\nnext", "a/b", "TAB\there", "ÄRGER é", "\u202eleft", "K \u212a", "İstanbul", "~{}[]", "x\u007fy", "\", \"7\": \"z"];
+  const table = Object.fromEntries(texts.map((text, i) => [3 * i, text]));
+  const [packed, solidus] = [JSON.stringify({ values: { 0: table } }), JSON.stringify({ values: { 0: table } }).replaceAll("/", "\\/")].map(text => read(text).values);
+  const parts = texts.flatMap(text => Array.from(text, (_, from) => [1, 2, 3, 9].map(length => text.slice(from, from + length))).flat());
+  const shown = texts.map(text => visible(text).toLowerCase());
+  for (const text of new Set([...parts, ...shown, "ORDER", "é", "É", "u+202e", "↵ NEXT", "k", "i", "\":", "12\"", "\\\"", ", ", "3", "order 12\"", "nothing has it"])) {
+    const wanted = Object.keys(table).filter(number => visible(table[number]).toLowerCase().includes(visible(text).toLowerCase()));
+    for (const values of [packed, solidus, new ReadTexts({ 0: table })]) assert.deepStrictEqual(numbersWith(values, 0, text), wanted, text);
+  }
+  const great = new ReadTexts({ 0: { "18446744073709551615": "a", "1000000000000000000": "a", "20": "a", "01": "a", "x": "a" } });
+  assert.deepStrictEqual([numbersWith(great, 0, "A"), numbersWith(great, 1, "a")], [["20", "1000000000000000000"], []]);
 });

@@ -2,6 +2,7 @@
 import assert from "node:assert/strict";
 import test from "node:test";
 import { drawBand } from "../src/draw/band.js";
+import { fittedName } from "../src/draw/canvas.js";
 import { drawCursor } from "../src/draw/cursor.js";
 import { Folds } from "../src/draw/folds.js";
 import { Frame } from "../src/draw/frame.js";
@@ -11,6 +12,7 @@ import { drawStrip, stripRow } from "../src/draw/strip.js";
 import { View } from "../src/draw/view.js";
 import { receiversOf } from "../src/findings/receivers.js";
 import { unlookedBy } from "../src/findings/unlooked.js";
+import { readNames } from "../src/run/names.js";
 import { Shown } from "../src/run/shown.js";
 import { PALETTE, Random, keepingPen, openedRun, randomScript } from "./random_runs.js";
 
@@ -100,7 +102,12 @@ function checkTicks(run, { pen, frame, bands }, seed) {
   }
 }
 
-// Each call has its mark in the row of its handle: sends point up, receives down. A sent value of a broadcast stands beside its own.
+// How far a ring around a mark reaches with its line, and half of the line of a cross.
+const RING = 7.75;
+const HALF_CROSS = 1.2;
+
+// Each call has its mark in the row of its handle: sends point up, receives down, and a cross is in it as a whole. A sent value of a broadcast stands beside
+// its own, and beside a ring around it.
 function checkMarks(run, { pen, frame, bands }, seed) {
   for (const place of places(run).slice(1)) {
     const entry = run.entry(place);
@@ -112,8 +119,9 @@ function checkMarks(run, { pen, frame, bands }, seed) {
     const isNear = (it, dx, dy) => it.colour === colour && Math.abs(it.x - x - dx) < 0.7 && Math.abs(it.y - y - dy) < 0.7;
     const why = `seed ${seed}, place ${place}: ${JSON.stringify(entry)}`;
     if (corner) assert.ok([...pen.paths, ...pen.boxes].some(it => isNear(it, corner[0] * size, corner[1] * size + (corner[2] ?? 0))), why);
+    if (entry.reply === "dropped") assert.ok(y + corner[2] + size + HALF_CROSS <= row.y + row.height, why);
     if (kind === "watch" || entry.reply !== "sent" && entry.reply !== "no-receivers") continue;
-    assert.ok(pen.texts.some(it => it.text === entry.rest && it.y === y && it.x > x && it.x < x + frame.column), why);
+    assert.ok(pen.texts.some(it => it.text === entry.rest && it.y === y && it.x > x + RING && it.x < x + frame.column), why);
   }
 }
 
@@ -179,6 +187,25 @@ test("close up each receiver has the levels, losses and life that the states hav
     checkLosses(run, await drawn(run, 3), seed);
     checkMarks(run, await drawn(run, 60), seed);
   }
+});
+
+test("a text of a value that is cut to less than four letters isn't drawn", async () => {
+  const run = await openedRun("broadcast 2\nwatch 0\n0 0 send 0 1\n0 1 send 0 1\n0 0 send 0 2\n0 1 send 0 2\n");
+  run.rename(readNames(JSON.stringify({ values: { 0: { 1: "OrderPlaced", 2: "OrderPlaced" }, 1: { 0: "maintenance", 1: "maintenance", 2: "maintenance" } } })));
+  for (const column of [14, 20, 30, 40]) {
+    const texts = (await drawn(run, column)).pen.texts.map(({ text }) => text.replace(/^= /, ""));
+    const cut = texts.filter(text => text.endsWith("…"));
+    assert.deepEqual(cut.filter(text => text.length < 5), [], `columns of ${column}`);
+    assert.equal(cut.length > 0, column > 14, `columns of ${column}: ${JSON.stringify(texts)}`);
+  }
+});
+
+test("of a name that is a place the line stays, and as much of what is before it as there is room for", () => {
+  const pen = keepingPen();
+  const name = "task of tests/bus.rs:66";
+  assert.deepEqual([200, 92, 91, 48, 40, 20].map(width => fittedName(pen, name, width)), 
+    [name, name, "task of test…bus.rs:66", "ta…bus.rs:66", "…bus.rs:66", "…s:66"]);
+  assert.equal(fittedName(pen, "nightly-export", 24), "night…");
 });
 
 test("from far a stretch of places has the greatest level in it", async () => {

@@ -19,7 +19,7 @@ ALERTED = "void (window.alert = () => { window.alerted = true; })"
 def lagging_picture(tab, folder, path):
     """A receiver that lags, with names for actors and channels."""
     opening.put(folder, "price_feed.names", runs.example_file("price_feed.names"))
-    tab.resize(1280, 720)
+    tab.resize(1280, 744)
     opening.load(tab, opening.page_of(folder, "price_feed.ttd", runs.example()), 22)
     tab.picture(path, "#left")
     tab.resize(1440, 920)

@@ -30,12 +30,12 @@ IDLE = 0.8
 JUMP_AND_STOP = {"cold jump": 0.1, "stop": 0.1}
 POOLS = {
     (64, 64, 100_000): {"first picture": 0.5, "findings": 1, **JUMP_AND_STOP},
-    (16, 16, 1_000_000): {"first picture": 1, "findings": 3, **JUMP_AND_STOP, "search": 0.5},
+    (16, 16, 1_000_000): {"first picture": 1, "findings": 3, **JUMP_AND_STOP, "search": 0.3},
 }
 PROCESSOR_MARGIN = 3
 
 # How far into a pool its jump leads, and how many megabytes the tab's process may have had by then.
-JUMP, MOST_MEGABYTES = 0.77, 600
+JUMP, MOST_MEGABYTES = 0.77, 480
 
 # When the state at the first place is shown.
 WATCH = """new MutationObserver((_, observer) => {
@@ -112,10 +112,12 @@ def most_megabytes(browser):
 
 
 def pool(tab, folder, size, promised):
-    """What a pool takes of processors, which a busy machine changes less than the time that passes, and of memory."""
+    """What a pool with a text for each value takes of processors, which a busy machine changes less than the time that passes, and of memory."""
     tab.call("Page.addScriptToEvaluateOnNewDocument", source=WATCH)
     tab.call("Performance.enable")
-    path = opening.page_of(folder, "speed_pool.journal", real_runs.pool_of(*size)[0])
+    journal, names = real_runs.pool_of(*size)
+    opening.put(folder, "speed_pool.names", names)
+    path = opening.page_of(folder, "speed_pool.journal", journal)
     jump = int(JUMP * size[2])
     waits = {
         "first picture": lambda: (tab.load(path), tab.wait("window.shownAt")),
@@ -167,6 +169,9 @@ def names_take_little(tab, folder, journals):
     shown = names["values"][channel][value]
     line = 300 + (sum(call[2] == channel for call in calls[:place]) - 1) % 100
     assert shown in tab.text("state") and f"src/pool.rs:{line} " in tab.text("sentence"), (tab.text("state"), shown, tab.text("sentence"), line)
+    hits = sum(len(range(50, count, 100)) for count in (sum(call[2] == str(channel) for call in calls) for channel in range(16)))
+    search.seek(tab, "SRC/pool.rs:350")
+    tab.wait(f"/^hit [0-9,]+ of {hits:,}(,|$)/.test({search.HIT})")
 
 
 def mean_step(tab):

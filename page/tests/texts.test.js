@@ -6,6 +6,7 @@ import { isolated, visible, visibleLines } from "../src/base/text.js";
 import { readEntry } from "../src/run/entries.js";
 import { Names, readNames } from "../src/run/names.js";
 import { isJournal } from "../src/run/opened_text.js";
+import { Run } from "../src/run/run.js";
 import { readStates } from "../src/run/states.js";
 import { countUpTo } from "../src/run/values.js";
 
@@ -14,7 +15,7 @@ test("numbers have separators, and units", () => {
   assert.deepStrictEqual([countOf(1, "call"), countOf(2, "call"), countOf(1000, "loss", "losses")], ["1 call", "2 calls", "1,000 losses"]);
   assert.deepStrictEqual([999, 1500, 2_600_000].map(sizeOf), ["999 bytes", "2 KB", "3 MB"]);
   assert.deepStrictEqual([1, 2, 3, 4, 11, 12, 13, 22, 101, 113, 2n ** 64n].map(nth),
-    ["1st", "2nd", "3rd", "4th", "11th", "12th", "13th", "22nd", "101st", "113th", "18446744073709551616th"]);
+    ["1st", "2nd", "3rd", "4th", "11th", "12th", "13th", "22nd", "101st", "113th", "18,446,744,073,709,551,616th"]);
 });
 
 test("what hides in a text is written out, and ends of lines of `{:#?}` are signs", () => {
@@ -86,4 +87,13 @@ test("names are read, and refused with a reason", () => {
     ['{"values": {"0": {"1": 2}}}', /values are no texts/], ['{"window": {"reason": "x", "at": null, "lead": -1, "channels": {}}}', /window has no/],
     ['{"times": [[1, 2]]}', /times are no lists/],
   ]) assert.throws(() => readNames(text), fault);
+});
+
+test("the order of an entry in its channel is that of a plain count", () => {
+  const channels = Uint8Array.from({ length: 5000 }, (_, number) => (number * number * 7) % 11 % 3);
+  const run = { columns: { channels }, channels: [{}, {}, {}], orders: null };
+  const counts = [0, 0, 0];
+  for (let number = 1; number < channels.length; number++) {
+    assert.strictEqual(Run.prototype.orderOf.call(run, number), counts[channels[number]]++, String(number));
+  }
 });

@@ -4,7 +4,7 @@ import test from "node:test";
 import { rowsOf } from "../src/draw/layout.js";
 import { partsOf } from "../src/draw/parts.js";
 import { placedLabels } from "../src/draw/story.js";
-import { plainText } from "../src/findings/account_text.js";
+import { aligned, plainText } from "../src/findings/account_text.js";
 import { failureLines } from "../src/findings/failure.js";
 
 test("names stand without backquotes, and counts in groups, but for what is quoted or is a line of a file", () => {
@@ -14,9 +14,22 @@ test("names stand without backquotes, and counts in groups, but for what is quot
     "`9000 calls` closed": "9000 calls closed",
     "order 20260101": "order 20260101",
     "dump of 2026-11-30 18:29:23.447 UTC: a channel had more calls than a journal takes (1048576); calls 5 to 555723": "dump of 2026-11-30 18:29:23.447 UTC: a channel had more calls than a journal takes (1,048,576); calls 5 to 555,723",
+    "its last receive: call 12, its 540000th value; at 3rd": "its last receive: call 12, its 540,000th value; at 3rd",
+    "20000 calls here, 30000 calls there: 12345 differ, 9999 only there": "20,000 calls here, 30,000 calls there: 12,345 differ, 9,999 only there",
     "a single ` stays": "a single ` stays",
   };
   assert.deepEqual(Object.keys(texts).map(plainText), Object.values(texts));
+});
+
+test("columns stay below each other where a number grows by its groups", () => {
+  const lines = [
+    '  call 675    prices.send("9 EUR")     clerk     tests/bus.rs:24   overwrote',
+    "  call 1624   told: lagged 12          auditor   tests/bus.rs:36   its last receive",
+    "  call 9      told: lagged 123456      auditor   tests/bus.rs:36   its last receive",
+    "  call 9      told: lagged 1234 of a   auditor   tests/bus.rs:36   its last receive",
+  ].map(line => plainText(aligned(line)));
+  for (const columns of [/prices|told/, /clerk|auditor/, /tests/, /overwrote|its last/]) assert.equal(new Set(lines.map(line => line.search(columns))).size, 1, lines.join("\n"));
+  assert.match(lines[1], /^ {2}call 1,624 {2}told/);
 });
 
 test("a failure is the panic in its own words, or of an earlier writer the line of the report, and a hang is said where nothing failed", () => {

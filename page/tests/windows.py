@@ -215,7 +215,7 @@ def window_as_why_says(tab, folder, journals):
         opening.settle(tab, account["look"] if is_found else lead + 1)
         assert account["look"] > lead and account["calls"] == len(found["places"])
         failing.check_answer_text(tab, account)
-        assert account["window"]["text"] in tab.run("document.getElementById('facts').textContent").replace("↵ ", "\\n")
+        assert failing.shown(account["window"]["text"]) in tab.run("document.getElementById('facts').textContent").replace("↵ ", "\\n")
         kinds |= {fact["kind"] for fact in account["facts"]} | {"lag" for it in window["channels"].values() if it["lags"]}
         kinds |= {"time" for fact in account["facts"] for it in fact["places"] if "time" in it}
         kinds |= {"before" for fact in account["facts"] if fact["text"][1].startswith("  before the window")}

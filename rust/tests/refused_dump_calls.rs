@@ -12,13 +12,14 @@ mod dumped_service;
 mod refusing_system;
 mod support;
 
-use dumped_service::{Service, files_in};
+use dumped_service::Service;
 use refusing_system::{Refusal, Seen, refusing};
 use std::collections::BTreeSet;
 use std::fs;
 use std::io;
 use std::path::{Path, PathBuf};
 use support::parts::{Folder, is_part, play};
+use support::temporary::files_in;
 use yovanelum::Recorder;
 
 /// The number of the error ENOSPC.

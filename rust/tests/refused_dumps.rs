@@ -11,10 +11,11 @@ mod dumped_service;
 mod refusing;
 mod support;
 
-use dumped_service::{Service, files_in};
+use dumped_service::Service;
 use refusing::{Refusing, refusing_others};
 use std::fs;
 use support::parts::Folder;
+use support::temporary::files_in;
 use yovanelum::Recorder;
 
 #[global_allocator]

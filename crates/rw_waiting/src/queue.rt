@@ -103,11 +103,4 @@ impl<T: Drop> Queue<T> {
     {
         mem::replace(&mut self.items, BTreeMap::new(alloc))
     }
-
-    /// Returns the items by their numbers, so in order.
-    pub fn items(&self) -> &BTreeMap<u64, T>
-        ensures { entries_of result.now.entries ≡ self.now.items }
-    {
-        &self.items
-    }
 }

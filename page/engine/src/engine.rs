@@ -199,9 +199,10 @@ impl Engine {
         })
     }
 
-    /// The places of all calls that have a text.
-    pub(crate) fn search(&mut self, wanted: &Wanted) -> Answer {
-        self.on_run(|run, names, _| Ok(vec![hits(run, names, wanted).into()]))
+    /// The places of all calls that have a text, as these names have it that calls are written.
+    pub(crate) fn search(&mut self, names: &[u8], wanted: &Wanted) -> Answer {
+        let names = names_of(names)?;
+        self.on_run(|run, _, _| Ok(vec![hits(run, &names, wanted).into()]))
     }
 }
 

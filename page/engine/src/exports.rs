@@ -186,12 +186,13 @@ exports! {
         let [from, each, count] = it.longs().try_into().unwrap_or_default();
         engine.levels(&channels, Stretches { from, each, count })
     };
-    /// [`Engine::search`]: the fields of [`Wanted`] in their order.
-    search = |engine, mut it| engine.search(&Wanted {
+    /// [`Engine::search`]: the text of a file of names that has what calls are written by, and the
+    /// fields of [`Wanted`] in their order.
+    search = |engine, mut it| engine.search(&it.bytes(), &Wanted {
         text: it.bytes(),
         actors: it.bytes(),
         channels: it.bytes(),
-        locations: it.bytes(),
+        located: it.bytes(),
         handles: it.lists(),
         values: it.lists(),
     });

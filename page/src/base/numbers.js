@@ -16,11 +16,11 @@ export function countOf(number, one, many = `${one}s`) {
   return `${grouped(number)} ${number === 1 ? one : many}`;
 }
 
-// Which of several things one is, as `1st` or `22nd`.
+// Which of several things one is, as `1st` or `1,022nd`.
 export function nth(number) {
   const digits = String(number);
   const end = /1[123]$/.test(digits) ? "th" : { 1: "st", 2: "nd", 3: "rd" }[digits.at(-1)] ?? "th";
-  return digits + end;
+  return grouped(digits) + end;
 }
 
 // Since when a call waits, by how many calls had been made.

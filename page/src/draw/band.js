@@ -50,8 +50,8 @@ function drawRows(drawing) {
   }
 }
 
-// Names each handle in view at the start of its line in the row. Far out, names that are wider than the line are left out. Of the very many there
-// may be, measuring each would be slow, and digits are of one width.
+// Names each handle in view at the start of its line in the row, by its number alone where there is no room for more. Far out, numbers that are wider
+// than the line are left out. Of the very many there may be, measuring each would be slow, and digits are of one width.
 function drawSharedNames({ pen, run, view, frame, band, palette }, row) {
   pen.font = SMALL_BOLD;
   const digit = pen.measureText("0").width;
@@ -62,7 +62,9 @@ function drawSharedNames({ pen, run, view, frame, band, palette }, row) {
     const x = Math.max(frame.left, frame.x(life.from));
     const room = Math.min(frame.right, frame.x(life.to)) - x;
     const number = run.numberOf(band.channel, life.handle);
-    if (frame.isNear || number.length * digit <= room) pen.fillText(number, x, row.base + 9);
+    const whole = `${row.kind} ${number}`;
+    if (frame.isNear && pen.measureText(whole).width <= room) pen.fillText(whole, x, row.base + 9);
+    else if (frame.isNear || number.length * digit <= room) pen.fillText(number, x, row.base + 9);
   }
 }
 

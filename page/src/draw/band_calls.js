@@ -3,14 +3,16 @@
 import { CODE, NUMBERS } from "../base/palette.js";
 import { MARK_NAMES } from "../run/marks.js";
 import { countUpTo } from "../run/values.js";
-import { fittedValue } from "./canvas.js";
+import { fittedValue, isTelling } from "./canvas.js";
 import { SHAPES } from "./shapes.js";
 
 const LARGEST = 4.6;
 // How wide a letter of a code is, and how far a code is from its mark and from what comes after it.
 const LETTER = 6.7;
 const CODE_GAP = 1;
-const VALUE_GAP = 7;
+// How far a value is from its mark, which may have a ring, and from the next one.
+const VALUE_GAP = 8;
+const END_GAP = 6;
 const LEAST_VALUE = 12;
 const VALUED = new Set(["sent", "unsent"]);
 
@@ -34,9 +36,10 @@ function drawSentValues(drawing) {
   eachCall(drawing, (place, mark, row) => {
     const x = frame.middle(place) + VALUE_GAP + codeWidth(drawing, place, row);
     const room = (ends.get(row) ?? frame.right) - x;
-    ends.set(row, frame.middle(place) - VALUE_GAP);
+    ends.set(row, frame.middle(place) - END_GAP);
     if (!VALUED.has(MARK_NAMES[mark]) || room < LEAST_VALUE) return;
-    pen.fillText(fittedValue(pen, run, ...run.sentAt(place), room), x, row.base - 5);
+    const text = fittedValue(pen, run, ...run.sentAt(place), room);
+    if (isTelling(text)) pen.fillText(text, x, row.base - 5);
   }, { isBack: true });
 }
 
@@ -74,7 +77,8 @@ function drawNear(drawing, place, mark, row) {
   pen.fillStyle = pen.strokeStyle = mark === "closed" ? palette.closed : mark === "lagged" ? palette.lag : palette.actor(entry.actor);
   pen.lineWidth = 1.6;
   SHAPES[mark](pen, x, y, Math.min(LARGEST, frame.column / 2.2));
-  if (codeWidth(drawing, place, row) > 0) drawCaller(drawing, entry, x, y);
+  // The line of who made a handle goes on behind the mark.
+  if (codeWidth(drawing, place, row) > 0) drawCaller(drawing, entry, x, mark === "made" ? row.base - 6 : y);
   if (mark === "made") drawMaking(drawing, entry, x, y);
 }
 

@@ -49,6 +49,32 @@ export function fitted(pen, text, width) {
   return cutTo(least);
 }
 
+// A place in the sources at the end of a name: the file and the line.
+const PLACE = /[^/\s]+:\d+$/;
+
+// Returns a name, cut if it is wider than this. What it has at its end of a place is kept, since names of places differ there.
+export function fittedName(pen, name, width) {
+  const [place] = PLACE.exec(name) ?? [];
+  if (place === undefined || pen.measureText(name).width <= width) return fitted(pen, name, width);
+  const room = width - pen.measureText(place).width;
+  return room < pen.measureText("…").width ? fittedEnd(pen, place, width) : fitted(pen, name.slice(0, -place.length), room) + place;
+}
+
+// The end of a text that is wider than this.
+function fittedEnd(pen, text, width) {
+  let from = 1;
+  while (from < text.length && pen.measureText(`…${text.slice(from)}`).width > width) from++;
+  return `…${text.slice(from)}`;
+}
+
+// How many letters of a value say something: less than these and the sign that it is cut are left out.
+const LEAST_LETTERS = 4;
+
+// Whether a text that was cut still says something.
+export function isTelling(text, before = "") {
+  return !text.endsWith("…") || text.length > before.length + LEAST_LETTERS;
+}
+
 // Returns what a value is called in this width: shortly, if it has no text and the words for it don't fit.
 export function fittedValue(pen, run, channel, number, width, before = "") {
   const [whole, short] = [run.names.value(channel, number), run.names.shortValue(channel, number)].map(words => before + words);

@@ -5,14 +5,14 @@ import { SMALL, SMALL_BOLD } from "../base/palette.js";
 import { standingOf } from "../run/versions.js";
 import { line } from "./canvas.js";
 import { headY } from "./heads.js";
-import { BAND, HEAD } from "./layout.js";
+import { BAND, HEAD, NAME_LINE } from "./layout.js";
 import { stretchOf } from "./loss_band.js";
 import { drawPlainName, drawRowName } from "./row_names.js";
 import { drawStory } from "./story.js";
 
 const EDGE = 8;
 const GAP = 5;
-const RING = 8;
+const RING = 7;
 
 // The words about a receiver, from right to left, each with its colour and font.
 function wordsOf(run, index, channel, receiver, palette) {
@@ -28,7 +28,7 @@ function wordsOf(run, index, channel, receiver, palette) {
 
 function drawStanding({ pen, run, frame, palette }, index, channel, receiver, row) {
   let x = (frame.left || frame.width) - EDGE;
-  const y = frame.left ? row.y + row.height / 2 : row.y + 8;
+  const y = frame.left ? row.y + row.height / 2 : row.y + NAME_LINE / 2;
   pen.textAlign = "right";
   for (const [text, colour, font] of wordsOf(run, index, channel, receiver, palette)) {
     pen.font = font;

@@ -2,7 +2,7 @@
 
 import { countOf, grouped } from "../base/numbers.js";
 import { BOLD, SMALL, SMALL_BOLD } from "../base/palette.js";
-import { fitted } from "./canvas.js";
+import { fitted, fittedName } from "./canvas.js";
 import { ACTORS } from "./folds.js";
 import { BAND, HEAD } from "./layout.js";
 import { drawLossBand } from "./loss_band.js";
@@ -29,7 +29,8 @@ function wordsOf({ run, view, frame, band }) {
   return [run.names.channel(band.channel), [...closed, kindOf(run.channels[band.channel]), ...receivers].join(" · ")];
 }
 
-// Says in a head where its channel is closed, right of the words that end at `least`, or left of the place where it closed.
+// Marks in a head where its channel is closed, and says so right of the words that end at `least`, or left of the place where it closed. Without room
+// beside the names, the words of the head say it.
 /** @param {Drawing} drawing */
 function drawClosed({ pen, run, view, frame, band, palette }, y, least) {
   const closing = run.closings.places[band.channel];
@@ -39,7 +40,6 @@ function drawClosed({ pen, run, view, frame, band, palette }, y, least) {
   pen.fillStyle = palette.closed;
   const x = Math.max(frame.left, frame.x(closing));
   if (closing > view.from) pen.fillRect(x, y + 3, 2, HEAD - 6);
-  if (least === null) return;
   const width = pen.measureText("closed").width;
   const right = Math.max(x + 6, least);
   const at = right + width <= frame.right ? right : x - 6 - width;
@@ -75,7 +75,7 @@ export function drawHead(drawing) {
   pen.font = BOLD;
   pen.fillStyle = palette.ink;
   const room = (frame.left || frame.width) - NAME;
-  const shown = fitted(pen, name, room * 0.7);
+  const shown = fittedName(pen, name, room * 0.7);
   pen.fillText(shown, NAME, y + HEAD / 2);
   const x = NAME + 8 + pen.measureText(shown).width;
   pen.font = SMALL;
@@ -85,7 +85,7 @@ export function drawHead(drawing) {
   const text = isCut ? fitted(pen, facts, room - x - (lost ? COUNT : 0)) : facts;
   pen.fillText(text, x, y + HEAD / 2);
   if (band.key === ACTORS) return;
-  if (band.isFolded || isCut) drawClosed(drawing, y, frame.left || null);
+  if (isCut && frame.left > 0) drawClosed(drawing, y, frame.left);
   if (band.isFolded) return drawLosses(drawing, y);
   if (isCut) return drawLostCount(drawing, band.channel, room + NAME - 6, y + HEAD / 2);
   const end = x + pen.measureText(text).width + 12;

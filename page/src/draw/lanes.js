@@ -4,7 +4,7 @@
 import { byId } from "../base/dom.js";
 import { BOLD, SMALL, SMALL_BOLD } from "../base/palette.js";
 import { factAt } from "../run/tasks.js";
-import { cleared, fitted, line } from "./canvas.js";
+import { cleared, fitted, fittedName, line } from "./canvas.js";
 
 export const LANE = 30;
 export const LANES_HEAD = 18;
@@ -77,7 +77,7 @@ export class Lanes {
     pen.font = frame.left ? BOLD : SMALL_BOLD;
     pen.fillStyle = palette.ink;
     pen.textAlign = "left";
-    pen.fillText(fitted(pen, name || `task ${index}`, (frame.left || frame.width) - BADGE_ROOM - 10), BADGE_ROOM, y);
+    pen.fillText(fittedName(pen, name || `task ${index}`, (frame.left || frame.width) - BADGE_ROOM - 10), BADGE_ROOM, y);
   }
 
   drawPoll({ pen, palette }, lane, { x, to, y }) {

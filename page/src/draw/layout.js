@@ -9,10 +9,12 @@ export const HEAD = 24;
 export const BAND = 11;
 const VALUE_ROW = 20;
 const ACTOR_ROW = 18;
-const SENDER_ROW = 24;
-const RECEIVER_ROW = 34;
-const NAME_LINE = 14;
-const FOOT = 5;
+const SENDER_ROW = 26;
+const RECEIVER_ROW = 37;
+// How high a name above its row is, with room around its badge.
+export const NAME_LINE = 18;
+// What is below the line of a row: the lower half of a mark on it.
+const FOOT = 8;
 const SHARED_FOOT = 13;
 const MANY_HANDLES = 14;
 const KINDS = ["sender", "weak sender", "receiver"];

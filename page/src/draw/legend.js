@@ -36,7 +36,7 @@ export function legendItems(run, palette) {
   const named = run.actors.names.map((text, actor) => ({ text, actor, width: BADGE, draw: pen => run.actors.drawBadge(pen, palette, actor, 0, 0) }));
   const actors = named.filter(({ actor }) => run.isCaller(actor));
   const marks = [
-    [colourMark(palette.unread), "to read"], [colourMark(palette.lag), "lost: overwritten before it was read"],
+    [colourMark(palette.unread), "to read"], [colourMark(palette.lag), LOST],
     [pen => drawStretch(pen, palette, { x: 0, end: SIZE }, 2, SIZE - 4, false), "lost, and nobody was told"], [colourMark(palette.unseen), "value not seen"],
     [pen => hatched(pen, palette, 0, 1, SIZE, SIZE - 2), CLOSED],
     ...Object.entries(SHAPE_MEANINGS).map(([shape, meaning]) => [shapeMark(palette, shape), meaning]),
@@ -51,9 +51,10 @@ function swatch(draw) {
   return canvas;
 }
 
-// The marks that the pictures of broadcasts and of watches have most of, and those of calls, if the run has such ones. What has no room is left out from
-// the end on.
-const MOST_SEEN = { broadcast: ["to read", "lost: overwritten before it was read"], watch: ["value not seen"] };
+// The marks that the pictures of broadcasts and of watches have most of, and those of losses, closed channels and calls, if the run has such ones. What has
+// no room is left out from the end on.
+const MOST_SEEN = { broadcast: "to read", watch: "value not seen" };
+const LOST = "lost: overwritten before it was read";
 const OF_CALLS = ["sent", "received", "lagged", "dropped"];
 const CLOSED = "channel closed";
 const LAST = "asked";
@@ -67,6 +68,11 @@ function isKept() {
   }
 }
 
+// Whether a channel is closed at the end.
+function hasClosed({ ending }) {
+  return ending.channels.some(({ closed }) => closed);
+}
+
 // Shows the marks that the run has most of in one line below the picture, until it was closed in this browser once.
 export function showKeyLine(run, palette) {
   const line = byId("key-line");
@@ -74,7 +80,9 @@ export function showKeyLine(run, palette) {
   if (line.hidden) return;
   const has = mark => run.columns.marks.includes(MARK_NAMES.indexOf(mark), 1);
   const meanings = marks => marks.filter(has).map(mark => SHAPE_MEANINGS[mark]);
-  const wanted = [...new Set(run.channels.flatMap(({ kind }) => MOST_SEEN[kind])), ...meanings(OF_CALLS), CLOSED, ...meanings([LAST])];
+  const most = new Set(run.channels.map(({ kind }) => MOST_SEEN[kind]));
+  const lost = run.losses.all.length > 0 ? [LOST] : [];
+  const wanted = [...most, ...lost, ...meanings(OF_CALLS), ...(hasClosed(run) ? [CLOSED] : []), ...meanings([LAST])];
   const all = legendItems(run, palette).filter(({ actor }) => actor === null);
   const items = wanted.map(text => all.find(it => it.text === text));
   line.querySelector("ul").replaceChildren(...items.map(({ text, draw }) => element("li", {}, swatch(draw), " ", text)));

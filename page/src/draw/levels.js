@@ -1,12 +1,13 @@
 // Draws the levels of receivers: what each has yet to read, or that it hasn't seen a watch's value.
 
 import { NUMBERS } from "../base/palette.js";
-import { fittedValue, line } from "./canvas.js";
+import { fittedValue, isTelling, line } from "./canvas.js";
 import { BAND } from "./layout.js";
 
 const UNSEEN_HEIGHT = 15;
 const ABOVE = 4;
 const VALUE_GAP = 3;
+const EQUALS = "= ";
 
 // Joins neighbouring places at which a receiver's level is the same, and calls `show` for each such stretch as an overview does.
 function eachLevel({ run, places, band }, show) {
@@ -74,7 +75,8 @@ export function drawValues({ pen, run, frame, places, band, palette }) {
   changesOf(run, places, band.channel).forEach(({ place, value }, i, changes) => {
     const x = frame.x(place);
     const end = i + 1 < changes.length ? frame.x(changes[i + 1].place) : frame.right;
-    pen.fillText(fittedValue(pen, run, band.channel, value, end - x - VALUE_GAP, "= "), x + VALUE_GAP, middle);
+    const text = fittedValue(pen, run, band.channel, value, end - x - VALUE_GAP, EQUALS);
+    if (isTelling(text, EQUALS)) pen.fillText(text, x + VALUE_GAP, middle);
     line(pen, x, row.y + 3, x, row.y + row.height - 3);
   });
 }

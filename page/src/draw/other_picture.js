@@ -9,7 +9,7 @@ import { ActorDots, Overview } from "./from_far.js";
 import { HEAD, inSight, layOut, rowsOf } from "./layout.js";
 import { drawPicture } from "./picture.js";
 
-const RING = 8;
+const RING = 7;
 
 // The bands of another run, in the order of this run's channels where they are the same. None is folded.
 class OtherFolds extends Folds {

@@ -3,9 +3,10 @@
 import { grouped } from "../base/numbers.js";
 import { SMALL, SMALL_BOLD } from "../base/palette.js";
 import { drawBand } from "./band.js";
-import { drawBefore, fitted, flag, line } from "./canvas.js";
+import { drawBefore, fittedName, flag, line } from "./canvas.js";
 import { ACTORS } from "./folds.js";
 import { drawHead } from "./heads.js";
+import { NAME_LINE } from "./layout.js";
 
 // Draws the axis above the picture: the numbers of places, and the current place as a label.
 
@@ -92,11 +93,11 @@ function drawActorRows({ pen, run, frame, band, palette }) {
   for (const row of band.rows) {
     const { actor, y } = row;
     const middle = middleOf(row);
-    const nameY = frame.left ? middle : y + 8;
+    const nameY = frame.left ? middle : y + NAME_LINE / 2;
     pen.textAlign = "left";
     pen.fillStyle = palette.ink;
     run.actors.drawBadge(pen, palette, actor, 6, nameY - 8);
-    pen.fillText(fitted(pen, run.actors.names[actor], (frame.left || frame.width) - BADGE_ROOM - 10), BADGE_ROOM, nameY);
+    pen.fillText(fittedName(pen, run.actors.names[actor], (frame.left || frame.width) - BADGE_ROOM - 10), BADGE_ROOM, nameY);
     pen.strokeStyle = palette.line;
     pen.lineWidth = 1;
     line(pen, frame.left, middle, frame.right, middle);

@@ -1,9 +1,10 @@
-// The name of a row: whose handle it is, and its kind and number. Whose it is, is cut first, and the number never.
+// The name of a row: whose handle it is, and its kind and number. Without room for all the kind is left out, then whose it is, is cut, and the number never.
 
 import { element, outside } from "../base/dom.js";
 import { SMALL, SMALL_BOLD } from "../base/palette.js";
 import { isolated } from "../base/text.js";
-import { fitted } from "./canvas.js";
+import { fittedName } from "./canvas.js";
+import { NAME_LINE } from "./layout.js";
 
 const LEFT = 6;
 const RIGHT = 8;
@@ -32,7 +33,7 @@ export function nameRoom({ run, frame, band }, row) {
   const standing = row.kind === "receiver" ? standingWidth(run, band.channel) : 0;
   const isAbove = isWordBelow(frame, row);
   const word = !row.part?.word || isAbove ? 0 : row.part.word.length * LETTER + RIGHT;
-  const middle = frame.left ? row.y + row.height / 2 - (isAbove ? APART : 0) : row.y + 8;
+  const middle = frame.left ? row.y + row.height / 2 - (isAbove ? APART : 0) : row.y + NAME_LINE / 2;
   return { x: LEFT, y: middle, room: (frame.left || frame.width) - LEFT - RIGHT - standing - word };
 }
 
@@ -63,13 +64,19 @@ export function drawPlainName(drawing, row, text) {
   drawing.pen.fillText(text, x + BADGE_ROOM, y);
 }
 
-// A handle's name, cut to a width.
+// The share of a name's room that its kind and number may have where whose it is has to be cut.
+const MOST_TAIL = 0.7;
+
+// A handle's name, cut to a width: first the word for its kind is left out, and then whose it is, is cut.
 function cutName({ pen, run, band: { channel } }, life, width) {
   const owner = run.ownerOf(channel, life);
   const separator = owner ? " · " : "";
-  const isShort = pen.measureText(`${separator}${life.kind} ${run.numberOf(channel, life.handle)}`).width > width * 0.7;
-  const tail = `${separator}${isShort ? "" : `${life.kind} `}${run.numberOf(channel, life.handle)}`;
-  return (owner ? isolated(fitted(pen, owner, width - pen.measureText(tail).width)) : "") + tail;
+  const number = run.numberOf(channel, life.handle);
+  const [long, short] = [`${separator}${life.kind} ${number}`, separator + number];
+  const isFitting = tail => pen.measureText((owner ?? "") + tail).width <= width;
+  const isShort = !isFitting(long) && (isFitting(short) || pen.measureText(long).width > width * MOST_TAIL);
+  const tail = isShort ? short : long;
+  return (owner ? isolated(fittedName(pen, owner, width - pen.measureText(tail).width)) : "") + tail;
 }
 
 // The names that were drawn last, by their rows, since measuring texts is slow. Rows are made again when names or widths change.

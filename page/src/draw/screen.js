@@ -27,9 +27,9 @@ const TIP = 14;
 // How wide the numbers of lost values are, right of the strip, on a narrow screen.
 const COUNTS = 58;
 
-// The share of the window that the strip may have, and on a narrow screen or below a table.
-const SHARE = 0.2;
-const LOW_SHARE = 0.14;
+// The share of the window that the strip may have, so that the answer above it has room, and on a narrow screen, where it is below none.
+const SHARE = 0.1;
+const NARROW_SHARE = 0.14;
 
 const PAPER = matchMedia("print");
 
@@ -83,7 +83,7 @@ export class Screen {
     this.standRows();
     // The pane has no width while another part of a narrow page is shown. It will have that of the window.
     this.width = byId("pane").clientWidth || (isTabbed() ? innerWidth : this.width) || 0;
-    const cap = stripCap(this.run, this.isNarrow || byId("losses").classList.contains("is-open") ? LOW_SHARE : SHARE);
+    const cap = stripCap(this.run, this.isNarrow ? NARROW_SHARE : SHARE);
     byId("strip-box").style.maxHeight = `${cap}px`;
     this.strip = {
       cap, run: this.run, view: this.view, palette: this.palette, height: stripHeight(this.run),

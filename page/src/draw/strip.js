@@ -2,7 +2,7 @@
 
 import { grouped } from "../base/numbers.js";
 import { CODE, SMALL } from "../base/palette.js";
-import { drawBefore, fitted, hatched } from "./canvas.js";
+import { drawBefore, fittedName, hatched } from "./canvas.js";
 import { drawStretch, stretchOf, uncovered } from "./loss_band.js";
 
 const ROW = 13;
@@ -86,7 +86,7 @@ export function drawStrip(drawing) {
     pen.textAlign = "right";
     pen.fillStyle = palette.mute;
     const isNarrow = frame.left < 2 * COUNT;
-    pen.fillText(fitted(pen, run.names.channel(channel), frame.left - (isNarrow ? 14 : room + SIGN.right)), frame.left - (isNarrow ? 8 : room), middle);
+    pen.fillText(fittedName(pen, run.names.channel(channel), frame.left - (isNarrow ? 14 : room + SIGN.right)), frame.left - (isNarrow ? 8 : room), middle);
     pen.fillStyle = palette.line;
     pen.fillRect(frame.left, row.y, frame.right - frame.left, row.bar);
     const closing = run.closings.places[channel];

@@ -9,11 +9,13 @@ import { sourceLink } from "./source_links.js";
 const NAME = /`([^`]+)`/;
 // Texts of values, which are as they are.
 const QUOTED = /("(?:[^"\\]|\\.)*")/;
-// The number of a call, and how many there are of something, but no year.
+// The number of a call, how many there are of something and which of them one is, but no year.
 const COUNT = new RegExp([
   String.raw`(?<=\b(?:calls \d+ to|calls?|lost|of|most|lagged|lags?|after|the last|missed) )\d{4,}\b(?!-)`,
   String.raw`(?<![\w.,:-])\d{4,}(?= (?:more |other )?[a-z]+s\b)`,
   String.raw`(?<=\()\d{4,}(?=\))`,
+  String.raw`(?<![\w.,:-])\d{4,}(?= (?:differ|only here|only there)\b)`,
+  String.raw`(?<![\w.,:-])\d{4,}(?=(?:st|nd|rd|th)\b)`,
 ].join("|"), "g");
 // Words from right to left, and the text between them, which is of one name: neither words of another direction nor the gap between two columns.
 const LETTER = RIGHT_TO_LEFT.source;
@@ -31,6 +33,24 @@ export function plainText(text) {
 
 function groupedText(text) {
   return text.split(QUOTED).map((part, i) => (i % 2 ? part : part.replace(COUNT, count => grouped(count)))).join("");
+}
+
+// The gap between two columns of a line, and how much of it stays.
+const GAP = /( {3,})/;
+const LEAST_GAP = 2;
+
+// A line whose columns stand below those of others: what a number grows by where it is grouped is taken from the gap behind it.
+export function aligned(text) {
+  let grown = 0;
+  return text.split(GAP).map((part, i) => {
+    if (i % 2 === 0) {
+      grown += plainText(part).length - visible(part).replace(/`/g, "").length;
+      return part;
+    }
+    const taken = Math.min(grown, part.length - LEAST_GAP);
+    grown -= taken;
+    return part.slice(taken);
+  }).join("");
 }
 
 // The same as elements and texts.

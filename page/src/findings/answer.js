@@ -6,7 +6,7 @@ import { byId, element } from "../base/dom.js";
 import { countOf, grouped } from "../base/numbers.js";
 import { isAlone } from "../base/tabs.js";
 import { visible } from "../base/text.js";
-import { waitParts, withSource, worded } from "./account_text.js";
+import { aligned, waitParts, withSource, worded } from "./account_text.js";
 import { showFailure } from "./failure.js";
 import { sourceLink } from "./source_links.js";
 import { unlookedBy } from "./unlooked.js";
@@ -39,8 +39,9 @@ function toPlace(place, text, fact) {
 function lineOf(run, fact, text, index) {
   const step = fact.places.find(it => it.line === index);
   const name = step && STEP.exec(text)?.[1];
-  const parts = name ? ["  ", toPlace(step.place, worded(name), fact), ...withSource(run, text.slice(2 + name.length), step.location, "  ")] : worded(text);
-  return element("bdi", { class: name ? "line step" : "line" }, ...parts);
+  if (!name) return element("bdi", { class: "line" }, ...worded(text));
+  const rest = withSource(run, aligned(text).slice(2 + name.length), step.location, "  ");
+  return element("bdi", { class: "line step" }, "  ", toPlace(step.place, worded(name), fact), ...rest);
 }
 
 // The values of these changes, if they are as many as the fact says.

@@ -60,6 +60,8 @@ export function conditionsAt(state, run) {
     offers.push([`closed ${index}`, `${name} is closed`]);
     if (channel.kind === "broadcast") offers.push([`queue ${index} ${channel.capacity}`, `${name} is full`]);
   });
-  for (let actor = 0; actor < run.actorCount; actor++) if (run.isCaller(actor)) offers.push([`actor ${actor}`, `a call of ${isolated(names.actor(actor))}`]);
+  for (let actor = 0; actor < run.columns.actorCount; actor++) {
+    if (run.isCaller(actor)) offers.push([`actor ${actor}`, `a call of ${isolated(names.actor(actor))}`]);
+  }
   return offers;
 }

@@ -3,18 +3,18 @@
 import { byId, element } from "../base/dom.js";
 import { isTabbed } from "../base/tabs.js";
 import { visible } from "../base/text.js";
-import { worded } from "./account_text.js";
+import { aligned, worded } from "./account_text.js";
 
 const CALL = /^  (here|there) +call (\d+)/;
 
 // A line of a call, with a link to it. One that is only there leads to where it stands on the axis of this run.
 function callLine(text, { axis }) {
   const found = CALL.exec(text);
-  if (found === null) return element("bdi", { class: "line" }, visible(text));
+  if (found === null) return element("bdi", { class: "line" }, ...worded(text));
   const [lead, side, number] = found;
   const column = side === "here" ? Number(number) : Math.floor(axis.at(Number(number)));
-  const go = element("button", { type: "button", "data-place": column, title: "go there" }, lead.trim());
-  return element("bdi", { class: "line step" }, "  ", go, visible(text.slice(lead.length)));
+  const go = element("button", { type: "button", "data-place": column, title: "go there" }, ...worded(lead.trim()));
+  return element("bdi", { class: "line step" }, "  ", go, ...worded(aligned(text).slice(lead.length)));
 }
 
 // Shows what was found beside another run with this name, or hides it again.

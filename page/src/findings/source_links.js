@@ -55,12 +55,21 @@ export function editorAddress(root, [file, line, column], form = kept()) {
   return form.replace(/\{(file|path|line|column)\}/g, (_, name) => parts[name]);
 }
 
+// How many letters a line has where there is least room for it.
+const LINE = 28;
+
+// A place as a text. A long one may go on in the next line behind each folder.
+function placeText(text) {
+  if (text.length <= LINE) return outside(text);
+  return element("bdi", {}, ...text.split(/(?<=\/)/).flatMap((part, i) => (i ? [element("wbr"), part] : [part])));
+}
+
 // A place in the sources as a link, with a button that copies it. `text` is what the link shows.
 export function sourceLink(run, place, text = visible(`${place[0]}:${place[1]}`)) {
   const address = editorAddress(run.names.root, place);
   const whole = visible(place.join(":"));
-  const shown = address === null ? outside(text) : element("a", { href: address, title: `open ${whole} in the editor` }, outside(text));
-  return element("span", { class: "source" }, shown, element("button", { type: "button", class: "copy", "data-copy": place.join(":"), "aria-label": `copy ${whole}`, title: `copy ${whole}` }));
+  const shown = address === null ? placeText(text) : element("a", { href: address, title: `open ${whole} in the editor` }, placeText(text));
+  return element("span", { class: text.length > LINE ? "source long" : "source" }, shown, element("button", { type: "button", class: "copy", "data-copy": place.join(":"), "aria-label": `copy ${whole}`, title: `copy ${whole}` }));
 }
 
 async function copy(button) {

@@ -2,28 +2,7 @@
 // replies. All hits are found, so that they can be counted, and marked on the strip.
 
 import { visible } from "../base/text.js";
-
-// Texts of letters of ASCII alone are shown as they are.
-const PLAIN = /^[ -~]*$/;
-const NUMBER = /^(0|[1-9]\d{0,18})$/;
-
-function folded(text) {
-  return text.toLowerCase();
-}
-
-// Whether a text as the page shows it has this one, where there are very many texts.
-function finder(text) {
-  const isPlain = PLAIN.test(text);
-  const pattern = new RegExp(text.replace(/[.*+?^${}()|[\]\\/]/g, "\\$&"), "i");
-  return shown => (isPlain && PLAIN.test(shown) ? pattern.test(shown) : folded(visible(shown)).includes(text));
-}
-
-// The numbers of the values whose texts have what is looked for, in their order. An object has its keys so, but for those above 2^32.
-function valuesWith(has, table) {
-  const found = [];
-  for (const number in table) if (has(table[number]) && NUMBER.test(number)) found.push(BigInt(number));
-  return found.sort((a, b) => (a < b ? -1 : Number(a > b)));
-}
+import { Sought, folded } from "../run/sought.js";
 
 // Whether an actor is the test itself.
 function isOfTest({ names }, actor) {
@@ -31,27 +10,36 @@ function isOfTest({ names }, actor) {
   return test !== undefined && names.shortActor(actor) === visible(test);
 }
 
+// Which calls stand at places in the sources that have the text, by their own places: 1 for each that does. It is empty where no place has it.
+function locatedIn({ names, columns, channels }, has) {
+  const { locations, calls } = names.tables;
+  const areWanted = Uint8Array.from(locations.map(([file, line]) => Number(has(`${file}:${line}`))));
+  if (!areWanted.includes(1)) return new Uint8Array();
+  const counts = new Uint32Array(channels.length);
+  return columns.channels.map((channel, place) => (place === 0 ? 0 : areWanted[calls[channel]?.[counts[channel]++]] ?? 0));
+}
+
 // Which of a run's things have the text in their names as the page shows them, by their numbers. In the calls and their replies the engine looks for it.
-function wantedOf(run, text) {
+function wantedOf(run, sought) {
   const { names, actors, channels, lives } = run;
+  const { text } = sought;
   const has = name => folded(name).includes(text);
   // A test makes most calls itself: a part of its name is no reason to find all of them.
   const ofActor = (name, actor) => (isOfTest(run, actor) ? folded(name) === text : has(name));
-  const hasShown = finder(text);
   return {
     text,
     actors: Uint8Array.from(actors.names, (name, actor) => Number(ofActor(name, actor))),
     channels: Uint8Array.from(channels, (_, channel) => Number(has(names.channel(channel)))),
-    locations: Uint8Array.from(names.tables.locations.map(([file, line]) => Number(has(`${file}:${line}`)))),
+    located: locatedIn(run, has),
     handles: lives.map((lives, channel) => lives.filter(({ handle }) => has(names.handle(channel, handle) ?? "")).map(({ handle }) => BigInt(handle))),
-    values: channels.map((_, channel) => valuesWith(hasShown, names.tables.values.table(channel))),
+    values: channels.map((_, channel) => names.tables.values.numbersWith(channel, sought)),
   };
 }
 
 // Returns the places of all calls that have a text, or null where `isOver` says that nobody waits for them any more.
 export async function hitsOf(run, text, isOver) {
-  const hits = await run.search(wantedOf(run, folded(visible(text))));
-  return isOver() ? null : Array.from(hits);
+  const hits = await run.search(wantedOf(run, new Sought(text)));
+  return isOver() ? null : hits;
 }
 
 // The console's conditions, with what comes after their word: a channel, a handle of it, an actor, or a number or word as it is.

@@ -2,7 +2,7 @@
 
 import { byId, fieldOf } from "../base/dom.js";
 import { Latest } from "../base/latest.js";
-import { leaveAnswer } from "../base/tabs.js";
+import { isTabbed, leaveAnswer, showTab } from "../base/tabs.js";
 import { showAccount } from "../findings/answer.js";
 import { showDifference } from "../findings/difference.js";
 import { firstPlace } from "../run/account.js";
@@ -144,6 +144,8 @@ export class Walk {
     const first = other?.compared.first;
     if (first && !isOfAddress) this.jumpTo(Math.floor(first.here ?? other.compared.axis.at(first.there)));
     else this.render();
+    // What differs is said there.
+    if (other !== null && isTabbed()) showTab("answer", this);
   }
 
   // To the next call that differs from the other run, or the one before.

@@ -10,6 +10,7 @@ import { isolated, visible } from "../base/text.js";
 import { legend, showKeyLine } from "../draw/legend.js";
 import { Screen } from "../draw/screen.js";
 import { View, columnsThatFit, placesAtFirst } from "../draw/view.js";
+import { plainText } from "../findings/account_text.js";
 import { openAccount } from "../findings/answer.js";
 import { firstPlace } from "../run/account.js";
 import { LossTable } from "../findings/loss_table.js";
@@ -37,7 +38,7 @@ function waitVerb(waits) {
 function factsOf(source, run) {
   const counts = [countOf(run.lastPlace - run.lead, "call"), countOf(run.channels.length, "channel"), countOf(run.callerCount, "actor")];
   const facts = [outside(source.name), ` · ${counts.join(" · ")}`];
-  if (run.names.window) facts.push(" · ", outside(windowText(run.names.window, run.lastPlace, visible)));
+  if (run.names.window) facts.push(" · ", outside(windowText(run.names.window, run.lastPlace, plainText)));
   if (source.notes.length > 0) facts.push(` · read from ${source.notes.join(", ")}`);
   if (run.waiting) facts.push(` · line ${run.waiting.line} would wait: `, outside(run.waiting.text));
   else if (run.waits.length > 0) facts.push(` · ${countOf(run.waits.length, "call")} ${waitVerb(run.waits)}: `, outside(run.waits.map(it => it.text).join("; ")));

@@ -47,8 +47,8 @@ export function misfit(names, run) {
 
 // The places of calls are by the order of a channel's entries, so there are as many: of a truncated run, perhaps more.
 function misfitOfCalls(calls, run) {
-  const counts = run.channels.map(() => 0);
-  run.columns.channels.forEach((channel, number) => { if (number > 0) counts[channel]++; });
+  const counts = new Uint32Array(run.channels.length);
+  if (Object.keys(calls).length > 0) for (const channel of run.columns.channels.subarray(1)) counts[channel]++;
   for (const [channel, list] of Object.entries(calls)) {
     if (list.length === counts[channel] || (run.isCut && list.length > counts[channel])) continue;
     return `it has ${countOf(list.length, "call")} of channel ${channel}, and this run has ${grouped(counts[channel])}`;

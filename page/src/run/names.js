@@ -160,6 +160,8 @@ export class Names {
     // What was seen of the test's tasks.
     this.tasksSeen = tasksSeen;
     this.tables = { actors, channels, values, handles, locations, made, calls, tasks };
+    // What says how calls are written, as a file of names of its own.
+    this.ofCalls = JSON.stringify({ version: tables.version, waited: tables.waited, window: tables.window });
     this.placed = calledByPlace({ channels, locations, made });
     this.core = visible(core);
     /** @type {Account | null} what was found in the run, in words */

@@ -1,12 +1,15 @@
 // A long run's file of names has a text for each value and a place in the sources for each call. Those are the most of it, and few of them are shown.
 // So they stay in the bytes of the file: what is made of them is where each text begins, and a list of numbers for each channel's calls.
 
-const [SPACE, QUOTE, COMMA, ZERO, NINE, COLON, BACKSLASH, U] = bytesOf(' ",09:\\u');
+const [SPACE, QUOTE, COMMA, ZERO, NINE, COLON, BACKSLASH, U, TILDE] = bytesOf(' ",09:\\u~');
 const [LEFT_BRACKET, RIGHT_BRACKET, LEFT_BRACE, RIGHT_BRACE] = bytesOf("[]{}");
 const GAPS = new Set(bytesOf(" \t\n\r"));
 const ESCAPED = new Set(bytesOf('"\\/bfnrt'));
 const NULL = bytesOf("null");
 const HEXADECIMAL = /^[0-9a-fA-F]{4}$/;
+
+// How a value's number is written.
+const NUMBER = /^(0|[1-9]\d{0,18})$/;
 
 // A number with more digits might not fit into a list's item.
 const MOST_DIGITS = 9;
@@ -46,6 +49,13 @@ class Numbers {
   get whole() {
     return this.list.slice(0, this.length);
   }
+
+  // The same as numbers of 64 bits, whose lower halves come first.
+  get longs() {
+    const halves = new Uint32Array(2 * this.length);
+    for (let i = 0; i < this.length; i++) halves[2 * i] = this.list[i];
+    return new BigUint64Array(halves.buffer);
+  }
 }
 
 // Goes over the bytes of a text of JSON.
@@ -78,17 +88,23 @@ class Scanner {
     for (const byte of bytes) if (this.bytes[this.at++] !== byte) throw new Unlike();
   }
 
-  // Goes behind a text in quotation marks, which is a right one.
+  // Goes behind a text in quotation marks, which is a right one. Returns whether it is plain, as `Sought` has it.
   text() {
     this.take(QUOTE);
     const { bytes } = this;
     let { at } = this;
+    let isPlain = true;
     for (let byte = bytes[at]; byte !== QUOTE; byte = bytes[at]) {
-      if (byte === BACKSLASH) at += this.escape(at);
-      else if (byte >= SPACE) at++;
-      else throw new Unlike();
+      if (byte === BACKSLASH) {
+        isPlain &&= bytes[at + 1] === QUOTE || bytes[at + 1] === BACKSLASH;
+        at += this.escape(at);
+      } else if (byte >= SPACE) {
+        isPlain &&= byte <= TILDE;
+        at++;
+      } else throw new Unlike();
     }
     this.at = at + 1;
+    return isPlain;
   }
 
   // How long the escaped character is that begins there.
@@ -166,10 +182,9 @@ function byChannel(scanner, part) {
   return new Map([...parts].sort(([one], [other]) => one - other));
 }
 
-// The texts of one channel's values: which values have one, where each text begins, and where all of them are.
+// The texts of one channel's values: which values have one, where each text begins, and the indexes of those that aren't plain.
 function textsOfChannel(scanner) {
-  const [numbers, starts] = [new Numbers(), new Numbers()];
-  const from = scanner.here;
+  const [numbers, starts, others] = [new Numbers(), new Numbers(), new Numbers()];
   let least = 0;
   for (let isMore = scanner.begin(); isMore; isMore = scanner.goesOn()) {
     const number = scanner.key();
@@ -177,9 +192,9 @@ function textsOfChannel(scanner) {
     least = number + 1;
     numbers.push(number);
     starts.push(scanner.here);
-    scanner.text();
+    if (!scanner.text()) others.push(numbers.length - 1);
   }
-  return { numbers: numbers.whole, starts: starts.whole, from, to: scanner.at };
+  return { numbers: numbers.whole, starts: starts.whole, others: others.whole };
 }
 
 function placesOfCalls(scanner) {
@@ -226,10 +241,17 @@ class PackedTexts {
     return read(this.bytes, start, scanner.at);
   }
 
-  // All texts of a channel by number, for a look at each.
-  table(channel) {
-    const table = this.tables.get(Number(channel));
-    return table ? read(this.bytes, table.from, table.to) : {};
+  // The numbers of the values of a channel whose texts have what is looked for, in their order, as numbers of 64 bits. No text is made of a plain one.
+  numbersWith(channel, sought) {
+    const { numbers, starts, others } = this.tables.get(Number(channel)) ?? { numbers: [], starts: [], others: [] };
+    const found = new Numbers();
+    let other = 0;
+    for (let i = 0; i < numbers.length; i++) {
+      const isPlain = others[other] !== i;
+      if (!isPlain) other++;
+      if (isPlain ? sought.isInPlain(this.bytes, starts[i]) : sought.isIn(this.textAt(starts[i]))) found.push(numbers[i]);
+    }
+    return found.longs;
   }
 }
 
@@ -254,6 +276,11 @@ export class ReadTexts {
 
   table(channel) {
     return Object.hasOwn(this.tables, channel) ? this.tables[channel] : {};
+  }
+
+  numbersWith(channel, sought) {
+    const found = Object.entries(this.table(channel)).filter(([number, text]) => NUMBER.test(number) && sought.isIn(text));
+    return BigUint64Array.from(found, ([number]) => BigInt(number)).sort();
   }
 }
 

@@ -10,7 +10,7 @@ import { KINDS } from "./kinds.js";
 import { MARK_NAMES } from "./marks.js";
 import { readStates } from "./states.js";
 import { Values } from "./values.js";
-import { waitsOf } from "./waiting.js";
+import { waitingActors, waitsOf } from "./waiting.js";
 
 const SENT = MARK_NAMES.indexOf("sent");
 // Past every place and every actor.
@@ -48,14 +48,31 @@ const MOST_ASKED = 2 << 20;
 const MOST_KEPT = 4 << 20;
 const STATE = 1000;
 
+// Of one entry in so many the order in its channel is stored.
+const COUNTED = 1024;
+
 const decoder = new TextDecoder();
 
-// How many entries of its channel come before each entry.
-function ordersOf(channels, count) {
-  const counts = new Uint32Array(count);
-  const orders = new Uint32Array(channels.length);
-  for (let number = 1; number < channels.length; number++) orders[number] = counts[channels[number]]++;
-  return orders;
+// How many entries of its channel come before each entry. Of one entry in many it is stored, of all channels, and from there on it is counted.
+class Orders {
+  constructor(channels, count) {
+    this.channels = channels;
+    this.count = count;
+    this.stored = new Uint32Array(count * Math.ceil(channels.length / COUNTED));
+    const counts = new Uint32Array(count);
+    for (let number = 0; number < channels.length; number++) {
+      if (number % COUNTED === 0) this.stored.set(counts, count * number / COUNTED);
+      if (number > 0) counts[channels[number]]++;
+    }
+  }
+
+  of(number) {
+    const { channels, count, stored } = this;
+    const from = number - number % COUNTED;
+    let order = stored[count * from / COUNTED + channels[number]];
+    for (let before = Math.max(from, 1); before < number; before++) if (channels[before] === channels[number]) order++;
+    return order;
+  }
 }
 
 export class Run {
@@ -77,6 +94,7 @@ export class Run {
     this.isWholeJournal = false;
     // Whether only the first calls are read so far, so that nothing can be counted.
     this.isBeginning = opened.isBeginning ?? false;
+    /** @type {Orders | null} once they are needed */
     this.orders = null;
     /** @type {number[][] | null} the places of each channel's calls that are drawn from far too, once they are needed */
     this.rareCalls = null;
@@ -101,7 +119,6 @@ export class Run {
     this.finding = undefined;
     this.receiverCounts = this.countReceivers();
     this.bindings = {};
-    this.actorCount = this.columns.actorCount;
     // The text of names that the engine has for the run, and the request that passed it on.
     this.named = { bytes: names.bytes, request: Promise.resolve() };
     this.rename(names);
@@ -113,6 +130,7 @@ export class Run {
 
   rename(names) {
     this.names = names;
+    this.actorCount = Math.max(this.columns.actorCount, ...waitingActors(names).map(actor => actor + 1));
     if (names.window) this.beginBehind(names.window);
     /** @type {Account | null} what was found in the run, in words: of the names, or else made once it is needed */
     this.account = names.account;
@@ -143,7 +161,7 @@ export class Run {
       return { ...loss, lost: loss.lost - here + before, before, here };
     }));
     this.receiverCounts = this.countReceivers();
-    this.callers = new Set(this.columns.actors.subarray(this.lead + 1));
+    this.callers = new Set([...new Set(this.columns.actors.subarray(this.lead + 1)), ...waitingActors(this.names)]);
   }
 
   // The number by which texts call a handle.
@@ -178,7 +196,7 @@ export class Run {
     return [...counts].filter(([, calls]) => calls > 0).map(([actor, calls]) => ({ actor, calls }));
   }
 
-  // Whether an actor is one of the run: in a window, it has made a call.
+  // Whether an actor is one of the run: in a window, it has made a call or waits in one.
   isCaller(actor) {
     return this.callers === null || this.callers.has(actor);
   }
@@ -234,8 +252,8 @@ export class Run {
 
   // How many entries of its channel come before an entry.
   orderOf(number) {
-    this.orders ??= ordersOf(this.columns.channels, this.channels.length);
-    return this.orders[number];
+    this.orders ??= new Orders(this.columns.channels, this.channels.length);
+    return this.orders.of(number);
   }
 
   // The last place up to a stamp, behind the lead.
@@ -344,7 +362,7 @@ export class Run {
 
   // Returns the places of all calls that have a text in their words, in those of their reply, or in a name.
   search(wanted) {
-    return this.askNamed("search", wanted);
+    return this.client.request("search", { ...wanted, names: this.names.ofCalls });
   }
 
   // Returns how the run differs from another one, which is opened too.

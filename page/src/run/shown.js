@@ -24,7 +24,7 @@ export class Shown {
     this.turned = new Set();
     // What stands in the field of the search, and the hits of the last one.
     this.stop = LAG;
-    /** @type {{ text: string, places: number[], isAll?: boolean }} */
+    /** @type {{ text: string, places: number[] | Uint32Array, isAll?: boolean }} */
     this.hits = { text: "", places: [] };
     // The table of receivers: whether it is unfolded, and by what it is sorted. At first, receivers that lost values and were never read by come last.
     this.table = { isOpen: false, isAtFirst: true, key: "lost", isDown: true };

@@ -33,6 +33,12 @@ export function waitsOf(run) {
   }));
 }
 
+// The actors that waited then, who may have made no call before. Of a file of names from elsewhere, those that it names.
+export function waitingActors({ waiting, tables: { actors } }) {
+  const named = Object.keys(actors).length;
+  return waiting.map(({ actor }) => actor).filter(actor => actor < named);
+}
+
 // Whose look holds the lock of a watch's value that a call waits for, as far as the names say it.
 function holderText(holder, run) {
   if (!holder) return "";

@@ -92,12 +92,15 @@ export function salvagedFrom(engine, journal) {
 }
 
 // Returns the places of all calls that have a text: in their words or those of their reply, or in what of the names has it.
-export function hitsOf(engine, { text, actors, channels, locations, handles, values }) {
-  return engine.ofRun("search", text, actors, channels, locations, ...listed(handles), ...listed(values))[0];
+export function hitsOf(engine, { names, text, actors, channels, located, handles, values }) {
+  return engine.ofRun("search", names, text, actors, channels, located, ...listed(handles), ...listed(values))[0];
 }
 
 // Lists of numbers as one, with the index past each.
 function listed(lists) {
   let end = 0;
-  return [BigUint64Array.from(lists.flat()), Uint32Array.from(lists.map(list => (end += list.length)))];
+  const ends = Uint32Array.from(lists.map(list => (end += list.length)));
+  const all = new BigUint64Array(end);
+  lists.forEach((list, i) => all.set(list, ends[i] - list.length));
+  return [all, ends];
 }

@@ -13,6 +13,7 @@ mod origin;
 mod own;
 mod spawned;
 
+use crate::run::listed::IntoList;
 pub use caller::set_task_id;
 pub(crate) use caller::{
     CallerNumber, current, current_task, forget_last_recorder, has_called, is_dropping_future,
@@ -29,10 +30,11 @@ pub use spawned::{SpawnedTask, blocking_task, spawned_task};
 
 use crate::channels::backend::Actor;
 use crate::channels::channel::CallSite;
+use crate::run::by_text::{TextMap, TextSet};
 use crate::run::numbered::{NumberMap, NumberSet};
 use caller::{is_spawned_task, is_unnamed, name_of_thread};
 use holders::{Holder, Holders};
-use std::collections::{HashMap, HashSet, VecDeque};
+use std::collections::VecDeque;
 use std::panic::Location;
 
 /// Where the name of a thread begins that has none.
@@ -60,15 +62,15 @@ pub(crate) struct Actors {
     // Who has each number, in the same order.
     holders: Vec<Holders>,
     // Of threads and named futures that have a number of their own, by their names.
-    numbers: HashMap<String, Actor>,
+    numbers: TextMap<Actor>,
     // The names of those that share the last number with its owner. Of very many some are left out.
-    sharing: HashSet<String>,
+    sharing: TextSet,
     // How often somebody got no number, since numbers were last looked for that nobody needs.
     refused: usize,
     // How many channels had left the run then.
     left_before: usize,
     // Of tasks without a name, by the numbers that their runtime gives them.
-    tasks: HashMap<u64, Actor>,
+    tasks: NumberMap<u64, Actor>,
     // Where each task without a name has made its first call.
     first_calls: NumberMap<u64, &'static Location<'static>>,
     // The numbers of threads and tasks without a name.
@@ -147,7 +149,7 @@ impl Actors {
         let is_first = self.sharing.is_empty();
         if self.sharing.len() < MOST_SHARING {
             let name = name_of_future().unwrap_or_else(name_of_thread);
-            self.sharing.insert(name);
+            self.sharing.insert(&name);
         }
         (Actor::of(self.most() - 1), is_first)
     }
@@ -170,7 +172,7 @@ impl Actors {
             let finds = holders.finds;
             holders.are_gone().then_some(Unused { number, finds })
         });
-        unused.collect()
+        unused.listed()
     }
 
     /// Gives those numbers away that nobody has got since, and that aren't among these, the bits of
@@ -264,7 +266,7 @@ impl Actors {
                     return None;
                 }
                 let actor = Actor::of(self.number_for(&name, is_unnamed(&name))?);
-                self.numbers.insert(name, actor);
+                self.numbers.insert(&name, actor);
                 actor
             }
         };
@@ -279,7 +281,7 @@ impl Actors {
         for (number, name) in names.into_iter().enumerate() {
             match &name {
                 Some(name) => {
-                    self.numbers.insert(name.clone(), Actor::of(number));
+                    self.numbers.insert(name, Actor::of(number));
                     if name.starts_with(SPAWNED_TASK) {
                         self.spawned.insert(number as u64);
                     }

@@ -44,7 +44,7 @@ impl Actor {
     }
 
     /// The bit that stands for this actor in a set of them.
-    #[inline]
+    #[inline(always)]
     pub(crate) fn bit(self) -> u64 {
         1 << self.0
     }
@@ -52,10 +52,20 @@ impl Actor {
 
 /// The actor of a call, and the clock of its recorder. If the call is recorded, its stamp is one
 /// more than the clock.
+// Two numbers are passed in registers, and three in memory.
 #[derive(Clone, Copy)]
 pub(crate) struct Caller {
     pub(crate) actor: Actor,
     pub(crate) clock: u64,
+}
+
+impl Caller {
+    /// Whoever calls where the channel has no recorder, and so keeps no last calls. Such a call has
+    /// no stamp, and no clock comes so far.
+    pub(crate) const UNRECORDED: Caller = Caller {
+        actor: Actor::FIRST,
+        clock: u64::MAX,
+    };
 }
 
 /// A channel of the core with its journal: all of its calls, the last ones, or those before its
@@ -228,34 +238,56 @@ impl Recording {
         seen.expect("a live receiver of a watch")
     }
 
+    /// Makes any call. Without optimization all are made here: what the core inlines would be
+    /// compiled for each, which was three of ten bytes of the library's code, and be no faster. A
+    /// build that is optimized with debug assertions has a sixth more instructions of it.
+    #[inline(never)]
+    fn call_any(&mut self, caller: Caller, call: ChanCall<u64>) -> Reply {
+        Reply::of(match &mut self.last {
+            Some(flight) if !self.all.is_recorded() => {
+                flight.call(caller.actor.number(), caller.clock, call)
+            }
+            _ => self.all.call(caller.actor.number(), caller.clock, call),
+        })
+    }
+
     /// Makes a call where not all calls are recorded.
-    // This only leads to one of two, so that neither saves registers for the other.
-    #[inline]
-    fn call_apart(&mut self, caller: Caller, call: impl FnOnce() -> ChanCall<u64>) -> Reply {
+    // As the methods that call this, which also stand where a channel has several machines.
+    #[cfg_attr(not(debug_assertions), inline(always))]
+    fn call_apart<const OF_HANDLES: bool>(
+        &mut self,
+        caller: Caller,
+        call: impl FnOnce() -> ChanCall<u64>,
+    ) -> Reply {
+        if caller.clock == Caller::UNRECORDED.clock {
+            return call_unrecorded::<OF_HANDLES>(&mut self.all, caller, call);
+        }
         match &mut self.last {
-            Some(flight) => call_last(flight, caller, call),
-            None => call_unrecorded(&mut self.all, caller, call),
+            Some(flight) => call_last::<OF_HANDLES>(flight, caller, call),
+            None => call_unrecorded::<OF_HANDLES>(&mut self.all, caller, call),
         }
     }
 }
 
 /// Makes a call that is kept among the last ones.
-// Apart, since the reply of a call that is recorded would be stored where this one is. Each call
-// has its own, of which the branches for others are left out.
-#[inline(never)]
-fn call_last(flight: &mut Flight, caller: Caller, call: impl FnOnce() -> ChanCall<u64>) -> Reply {
-    Reply::of(flight.call(caller.actor.number(), caller.clock, call()))
+#[cfg_attr(debug_assertions, inline(never))]
+#[cfg_attr(not(debug_assertions), inline(always))]
+fn call_last<const OF_HANDLES: bool>(
+    flight: &mut Flight,
+    caller: Caller,
+    call: impl FnOnce() -> ChanCall<u64>,
+) -> Reply {
+    Reply::of_call::<OF_HANDLES>(flight.call(caller.actor.number(), caller.clock, call()))
 }
 
 /// Makes a call that isn't recorded.
-#[cfg_attr(debug_assertions, inline(never))]
-#[cfg_attr(not(debug_assertions), inline(always))]
-fn call_unrecorded(
+#[inline(always)]
+fn call_unrecorded<const OF_HANDLES: bool>(
     all: &mut rw_recording::Recording,
     caller: Caller,
     call: impl FnOnce() -> ChanCall<u64>,
 ) -> Reply {
-    Reply::of(all.call(caller.actor.number(), caller.clock, call()))
+    Reply::of_call::<OF_HANDLES>(all.call(caller.actor.number(), caller.clock, call()))
 }
 
 /// Goes on from a recording that hasn't ended with its last calls alone.
@@ -270,19 +302,55 @@ fn nothing() -> Result<rw_recording::Recording, OpenFault> {
     Ok(nothing)
 }
 
+/// Whether the call with this word makes or drops a handle.
+macro_rules! is_of_handles {
+    (Subscribe) => {
+        true
+    };
+    (CloneSender) => {
+        true
+    };
+    (CloneReceiver) => {
+        true
+    };
+    (Resubscribe) => {
+        true
+    };
+    (Downgrade) => {
+        true
+    };
+    (Upgrade) => {
+        true
+    };
+    (CloneWeak) => {
+        true
+    };
+    (Drop) => {
+        true
+    };
+    ($other:ident) => {
+        false
+    };
+}
+
 /// The calls of the core by name: each becomes a method.
 macro_rules! methods {
     ($($word:ident $text:literal $method:literal $done:literal $(makes $kind:ident)? [$($set:ident)*]
         $($name:ident($($arg:ident: $type:ty),*) = $side:ident $variant:ident $args:tt)*
         $(=> $like:ident)?;)*) => {
         impl Recording {
-            $($(#[inline]
+            $($(#[cfg_attr(not(debug_assertions), inline(always))]
             pub(crate) fn $name(&mut self, caller: Caller, $($arg: $type),*) -> Reply {
+                const OF_HANDLES: bool = is_of_handles!($word);
+                if cfg!(debug_assertions) {
+                    return self.call_any(caller, ChanCall::$side($side::$variant $args));
+                }
                 if !self.all.is_recorded() {
-                    return self.call_apart(caller, move || ChanCall::$side($side::$variant $args));
+                    let call = move || ChanCall::$side($side::$variant $args);
+                    return self.call_apart::<OF_HANDLES>(caller, call);
                 }
                 let call = ChanCall::$side($side::$variant $args);
-                Reply::of(self.all.call(caller.actor.0, caller.clock, call))
+                Reply::of_call::<OF_HANDLES>(self.all.call(caller.actor.0, caller.clock, call))
             })*)*
         }
     };

@@ -31,7 +31,7 @@ pub(crate) use kept::{KeptChannel, NotedChannel};
 pub(crate) use known::{Known, KnownReceiver};
 pub(crate) use last_calls::SendMade;
 pub(crate) use locations::{CallSite, CallSites, call_site};
-pub(crate) use locked::LockedChannel;
+pub(crate) use locked::{Access, LockedChannel};
 pub(crate) use receivers::{LiveReceiver, NO_SLOT, Slot};
 pub(crate) use registry::{RegisteredChannel, all as all_channels};
 pub(crate) use state::ChannelState;

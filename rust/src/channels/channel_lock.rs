@@ -9,9 +9,10 @@ use std::sync::atomic::{AtomicU32, Ordering};
 use std::sync::{Condvar, Mutex, PoisonError};
 
 const FREE: u32 = 0;
+/// Of a lock that is held, this bit is set.
 const HELD: u32 = 1;
 /// Held, and some thread may sleep until it is free.
-const AWAITED: u32 = 2;
+const AWAITED: u32 = 2 | HELD;
 
 /// How often a thread looks whether the lock is free before it sleeps.
 const LOOKS: usize = 100;
@@ -47,8 +48,7 @@ impl<T> ChannelLock<T> {
     }
 
     /// Acquires the lock, once no other thread holds it.
-    #[cfg_attr(debug_assertions, inline(never))]
-    #[cfg_attr(not(debug_assertions), inline(always))]
+    #[inline(always)]
     pub(crate) fn lock(&self) -> ChannelGuard<'_, T> {
         if !self.acquires() {
             self.wait();
@@ -63,10 +63,8 @@ impl<T> ChannelLock<T> {
 
     #[inline(always)]
     fn acquires(&self) -> bool {
-        let was = self
-            .word
-            .compare_exchange(FREE, HELD, Ordering::Acquire, Ordering::Relaxed);
-        was.is_ok()
+        // Whoever finds it held changes nothing: if it is awaited, it still is.
+        self.word.fetch_or(HELD, Ordering::Acquire) & HELD == 0
     }
 
     /// Waits until the lock is free, and acquires it.

@@ -44,101 +44,110 @@ fn read<T, R: 'static>(value: &T, read: impl FnOnce(&dyn Any) -> R) -> R {
     read(erased.as_any())
 }
 
-/// Writes the text of a value that is of one type.
-type WriteText = fn(&dyn Any) -> Option<String>;
+/// How the text of a value of one type is made. Each is told apart from writing it, since rustc
+/// compiles all that is in one of these for each of some 200 types.
+#[derive(Clone, Copy)]
+enum KnownType {
+    Value(fn(&dyn Any) -> Option<&dyn Debug>),
+    Pair(fn(&dyn Any) -> Option<[&dyn Debug; 2]>),
+    /// The text of a text is itself: a report has it in quotation marks.
+    Text(fn(&dyn Any) -> Option<&str>),
+}
+
+impl KnownType {
+    fn text_of(self, value: &dyn Any) -> Option<String> {
+        Some(match self {
+            KnownType::Value(of) => format!("{:?}", of(value)?),
+            KnownType::Pair(of) => {
+                let [one, other] = of(value)?;
+                format!("({one:?}, {other:?})")
+            }
+            KnownType::Text(of) => of(value)?.to_string(),
+        })
+    }
+}
+
+fn as_value<T: Debug + 'static>(value: &dyn Any) -> Option<&dyn Debug> {
+    match value.downcast_ref::<T>() {
+        Some(value) => Some(value),
+        None => None,
+    }
+}
+
+fn as_pair<T: Debug + 'static, U: Debug + 'static>(value: &dyn Any) -> Option<[&dyn Debug; 2]> {
+    match value.downcast_ref::<(T, U)>() {
+        Some((one, other)) => Some([one, other]),
+        None => None,
+    }
+}
+
+fn as_text<T: AsRef<str> + 'static>(value: &dyn Any) -> Option<&str> {
+    match value.downcast_ref::<T>() {
+        Some(value) => Some(value.as_ref()),
+        None => None,
+    }
+}
+
+fn text_in_arc(value: &dyn Any) -> Option<&str> {
+    Some(value.downcast_ref::<Arc<String>>()?)
+}
 
 /// The types whose values have texts by themselves.
-#[derive(Default)]
-struct KnownTypes(HashMap<TypeId, WriteText>);
+type KnownTypes = HashMap<TypeId, KnownType>;
 
-impl KnownTypes {
-    fn add<T: Debug + 'static>(&mut self) {
-        self.add_by::<T>(|value| Some(format!("{:?}", value.downcast_ref::<T>()?)));
-    }
+/// The rows of each of these types, of what has a value of it, and of pairs of two.
+macro_rules! rows {
+    (pair $of:ty, $and:ty) => {
+        (TypeId::of::<($of, $and)>(), KnownType::Pair(as_pair::<$of, $and>))
+    };
+    ($($of:ty)*) => {
+        [$(
+            (TypeId::of::<$of>(), KnownType::Value(as_value::<$of>)),
+            (TypeId::of::<Option<$of>>(), KnownType::Value(as_value::<Option<$of>>)),
+            (TypeId::of::<Vec<$of>>(), KnownType::Value(as_value::<Vec<$of>>)),
+            (TypeId::of::<Arc<$of>>(), KnownType::Value(as_value::<Arc<$of>>)),
+            rows!(pair $of, u32),
+            rows!(pair $of, u64),
+            rows!(pair $of, usize),
+            rows!(pair $of, i32),
+            rows!(pair $of, bool),
+            rows!(pair $of, f64),
+            rows!(pair $of, String),
+            rows!(pair $of, &'static str),
+        )*]
+    };
+}
 
-    fn add_by<T: 'static>(&mut self, write: WriteText) {
-        self.0.insert(TypeId::of::<T>(), write);
+fn known_types() -> KnownTypes {
+    let values = rows! {
+        u8 u16 u32 u64 u128 usize i8 i16 i32 i64 i128 isize f32 f64 bool char Duration String
+        &'static str
+    };
+    let texts = [
+        (TypeId::of::<String>(), KnownType::Text(as_text::<String>)),
+        (TypeId::of::<&str>(), KnownType::Text(as_text::<&str>)),
+        (
+            TypeId::of::<Arc<str>>(),
+            KnownType::Text(as_text::<Arc<str>>),
+        ),
+        (
+            TypeId::of::<Box<str>>(),
+            KnownType::Text(as_text::<Box<str>>),
+        ),
+        (TypeId::of::<Arc<String>>(), KnownType::Text(text_in_arc)),
+    ];
+    let mut known = KnownTypes::new();
+    for (id, of_type) in [&values[..], &texts].concat() {
+        known.insert(id, of_type);
     }
-
-    fn add_wrapped<T: Debug + 'static>(&mut self) {
-        self.add::<T>();
-        self.add::<Option<T>>();
-        self.add::<Vec<T>>();
-        self.add::<Arc<T>>();
-    }
-
-    /// Adds what has a value of each of these types, and pairs of two.
-    fn add_all<T: Debug + 'static>(&mut self) {
-        self.add_wrapped::<T>();
-        self.add::<(T, u32)>();
-        self.add::<(T, u64)>();
-        self.add::<(T, usize)>();
-        self.add::<(T, i32)>();
-        self.add::<(T, bool)>();
-        self.add::<(T, f64)>();
-        self.add::<(T, String)>();
-        self.add::<(T, &'static str)>();
-    }
-
-    /// The text of a text is itself: a report has it in quotation marks.
-    fn add_texts(&mut self) {
-        self.add_by::<String>(|value| value.downcast_ref::<String>().cloned());
-        self.add_by::<&'static str>(|value| {
-            value.downcast_ref::<&str>().map(|text| text.to_string())
-        });
-        self.add_by::<Arc<str>>(|value| {
-            value
-                .downcast_ref::<Arc<str>>()
-                .map(|text| text.to_string())
-        });
-        self.add_by::<Box<str>>(|value| {
-            value
-                .downcast_ref::<Box<str>>()
-                .map(|text| text.to_string())
-        });
-        self.add_by::<Arc<String>>(|value| {
-            value
-                .downcast_ref::<Arc<String>>()
-                .map(|text| text.to_string())
-        });
-    }
-
-    fn new() -> KnownTypes {
-        let mut known = KnownTypes::default();
-        macro_rules! add_all {
-            ($($of_type:ty),*) => { $(known.add_all::<$of_type>();)* };
-        }
-        add_all!(
-            u8,
-            u16,
-            u32,
-            u64,
-            u128,
-            usize,
-            i8,
-            i16,
-            i32,
-            i64,
-            i128,
-            isize,
-            f32,
-            f64,
-            bool,
-            char,
-            Duration,
-            String,
-            &'static str
-        );
-        known.add_texts();
-        known
-    }
+    known
 }
 
 /// Returns the text of a value, if its type is one of those that are known by themselves.
 pub(crate) fn text_of<T>(value: &T) -> Option<String> {
     static KNOWN: OnceLock<KnownTypes> = OnceLock::new();
-    let KnownTypes(known) = KNOWN.get_or_init(KnownTypes::new);
-    let text = read(value, |value| known.get(&value.type_id())?(value));
+    let known = KNOWN.get_or_init(known_types);
+    let text = read(value, |value| known.get(&value.type_id())?.text_of(value));
     #[cfg(feature = "debug_values")]
     let text = text.or_else(|| any_debug::text_of(value));
     text
@@ -164,7 +173,7 @@ fn is_err<T>(output: &T) -> bool {
 
 fn known_error_in<T>(output: &T) -> Option<String> {
     read(output, |output| {
-        let texts = [
+        let errors = [
             error_of::<Box<dyn Error>>(output),
             error_of::<Box<dyn Error + Send>>(output),
             error_of::<Box<dyn Error + Send + Sync>>(output),
@@ -178,13 +187,16 @@ fn known_error_in<T>(output: &T) -> Option<String> {
             error_of::<crate::channels::broadcast::error::TryRecvError>(output),
             error_of::<crate::channels::watch::error::RecvError>(output),
         ];
-        texts.into_iter().flatten().next()
+        let error = errors.into_iter().flatten().next()?;
+        Some(format!("{error:?}"))
     })
 }
 
-fn error_of<E: Debug + 'static>(output: &dyn Any) -> Option<String> {
-    let error = output.downcast_ref::<Result<(), E>>()?.as_ref().err()?;
-    Some(format!("{error:?}"))
+fn error_of<E: Debug + 'static>(output: &dyn Any) -> Option<&dyn Debug> {
+    match output.downcast_ref::<Result<(), E>>() {
+        Some(Err(error)) => Some(error),
+        _ => None,
+    }
 }
 
 #[cfg(test)]

@@ -30,7 +30,7 @@ impl<K, T> GuardedBy<K, T> {
     /// # Panics
     ///
     /// Panics if this is another `K` than the value was created with.
-    #[inline]
+    #[inline(always)]
     pub(crate) fn borrow_mut<'a>(&'a self, key: &'a mut K) -> &'a mut T {
         assert!(
             ptr::eq(self.key, key),

@@ -2,12 +2,11 @@
 
 use crate::channels::budget;
 use crate::channels::channel::{
-    Call, CallSite, CoreChannel, LockedChannel, NO_SLOT, RecordedChannel, Slot, TypedChannel,
-    call_site,
+    Access, Call, CallSite, CoreChannel, LockedChannel, NO_SLOT, RecordedChannel, Slot,
+    TypedChannel, call_site,
 };
 use crate::channels::lock::lock;
 use crate::channels::recorder::RecordedHandle;
-use crate::channels::turns::Permit;
 use crate::channels::wait::{ComingCall, Method, Pending, PolledCall, WaitFor};
 pub(crate) use crate::run::operation::Kind;
 use crate::run::operation::Operation;
@@ -32,6 +31,16 @@ pub(crate) struct ChannelHandle<T, S> {
 // locked. The value of a watch is what a closure that panics has left, as in tokio.
 impl<T, S> UnwindSafe for ChannelHandle<T, S> {}
 impl<T, S> RefUnwindSafe for ChannelHandle<T, S> {}
+
+/// By what most calls are made, of channels without a recorder and of those that are recorded
+/// without a turn. Where a call is optimized, each of the two has code of its own, in which nothing
+/// is left of what it hasn't. Unoptimized, the code is the same, and has a large value on its stack
+/// once.
+pub(crate) enum Usual<'a> {
+    Unrecorded(Access<'a>),
+    Recorded(Access<'a>),
+    Neither,
+}
 
 impl<T, S> ChannelHandle<T, S> {
     /// Returns the two handles that the core opens each channel with: sender 0 and receiver 1.
@@ -83,35 +92,60 @@ impl<T, S> ChannelHandle<T, S> {
 
     /// Locks the channel for a call of this handle, which is made here in the source, once its turn
     /// in a replay has come.
-    #[inline]
+    #[inline(always)]
     pub(crate) fn lock(&self, word: Operation, called_at: CallSite) -> LockedChannel<'_> {
+        self.lock_with(self.pass(word, called_at), called_at)
+    }
+
+    /// By what most calls are made.
+    #[inline(always)]
+    pub(crate) fn usual(&self) -> Usual<'_> {
         let channel = &self.channel.recorded;
-        let permit = match channel.ordered {
-            Some(_) => channel.pass_gate(self.number, word, called_at),
-            None => None,
-        };
-        channel.lock(permit, self.number, called_at)
+        match (&channel.recorder.0, &channel.ordered) {
+            (None, _) => Usual::Unrecorded(Access::default()),
+            (Some(recorder), None) => Usual::Recorded(Access {
+                recorder: Some(recorder),
+                permit: None,
+            }),
+            (Some(_), Some(_)) => Usual::Neither,
+        }
     }
 
     /// Waits for the turn of a call of this handle in a replay. It is called before a lock is
     /// acquired.
-    #[inline]
-    pub(crate) fn pass(&self, word: Operation, called_at: CallSite) -> Option<Permit<'_>> {
+    #[inline(always)]
+    pub(crate) fn pass(&self, word: Operation, called_at: CallSite) -> Access<'_> {
         let channel = &self.channel.recorded;
-        match channel.ordered {
+        let Some(recorder) = &channel.recorder.0 else {
+            return Access::default();
+        };
+        let permit = match channel.ordered {
             Some(_) => channel.pass_gate(self.number, word, called_at),
             None => None,
+        };
+        Access {
+            recorder: Some(recorder),
+            permit,
         }
     }
 
-    /// Locks the channel for a call that has its turn by this permit.
-    #[inline]
+    /// What a call has that needs no turn.
+    #[inline(always)]
+    pub(crate) fn unordered(&self) -> Access<'_> {
+        Access {
+            recorder: self.channel.recorded.recorder.0.as_deref(),
+            permit: None,
+        }
+    }
+
+    /// Locks the channel for a call that is made by this.
+    #[inline(always)]
     pub(crate) fn lock_with<'a>(
         &'a self,
-        permit: Option<Permit<'a>>,
+        access: Access<'a>,
         called_at: CallSite,
     ) -> LockedChannel<'a> {
-        self.recorded().lock(permit, self.number, called_at)
+        self.recorded().lock_with(access, self.number, called_at)
     }
 
     /// Makes a call.
@@ -207,7 +241,7 @@ impl<T, S> ChannelHandle<T, S> {
     }
 
     /// Waits for the turn of a call of this handle in a replay, where it may be pending until then.
-    pub(crate) async fn turn(&self, word: Operation, called_at: CallSite) -> Option<Permit<'_>> {
+    pub(crate) async fn turn(&self, word: Operation, called_at: CallSite) -> Access<'_> {
         let mut coming = ComingCall {
             channel: self.recorded(),
             handle: self.number,
@@ -215,7 +249,11 @@ impl<T, S> ChannelHandle<T, S> {
             called_at,
             ticket: None,
         };
-        poll_fn(|context| coming.poll(context)).await
+        let permit = poll_fn(|context| coming.poll(context)).await;
+        Access {
+            permit,
+            ..self.unordered()
+        }
     }
 
     /// Attempts a call that waits. Between attempts the caller holds its state, and ends the wait

@@ -10,6 +10,7 @@ use crate::channels::handle::Kind;
 use crate::channels::lock::lock;
 use crate::channels::recorder::{Handle, Recorder};
 use crate::channels::wait::Awaited;
+use crate::run::listed::IntoList;
 use crate::run::sorting::sort_by_key;
 use std::panic::Location;
 use std::time::{Duration, SystemTime, UNIX_EPOCH};
@@ -138,8 +139,8 @@ impl NumberedCall {
         state: &mut ChannelState,
         clock: u64,
     ) {
-        let calls: Vec<_> = calls.flatten().collect();
-        let stamps: Vec<_> = calls.iter().map(|call| call.stamp).collect();
+        let calls: Vec<_> = calls.flatten().listed();
+        let stamps: Vec<_> = calls.iter().map(|call| call.stamp).listed();
         for (call, wall) in calls.into_iter().zip(state.when(&stamps, clock)) {
             call.wall = wall;
         }
@@ -220,7 +221,7 @@ impl Snapshot {
             ChannelSnapshot::new(&mut lock(channel), clock)
         });
         Snapshot {
-            channels: channels.collect(),
+            channels: channels.listed(),
         }
     }
 
@@ -243,14 +244,14 @@ impl ChannelSnapshot {
 
     /// Returns what is on a channel with this state, at this time of its recorder's clock.
     fn new(state: &mut ChannelState, clock: Option<u64>) -> ChannelSnapshot {
-        let mut receivers: Vec<_> = state.receivers.iter().map(ReceiverSnapshot::new).collect();
+        let mut receivers: Vec<_> = state.receivers.iter().map(ReceiverSnapshot::new).listed();
         // Not by the number, which may have been that of another one before.
         sort_by_key(&mut receivers, |(number, _)| state.core.nth(*number));
         let retained = state.core.capacity().map_or(1, |_| state.core.queued());
         let mut receivers: Vec<_> = receivers
             .into_iter()
             .map(|(number, receiver)| receiver.in_channel(number, state))
-            .collect();
+            .listed();
         ReceiverSnapshot::add_waits(&mut receivers, state);
         let mut sent_last = NumberedCall::new(state.sent_stamp());
         if let Some(clock) = clock {
@@ -268,10 +269,7 @@ impl ChannelSnapshot {
             sender: state.last_send.name().map(str::to_string),
             sent_at: state.last_send.called_at(),
             sent_last,
-            receivers: receivers
-                .into_iter()
-                .map(|(_, receiver)| receiver)
-                .collect(),
+            receivers: receivers.into_iter().map(|(_, receiver)| receiver).listed(),
         }
     }
 

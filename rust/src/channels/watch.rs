@@ -62,12 +62,11 @@ pub use receiver::Receiver;
 pub use sender::Sender;
 
 use crate::channels::channel::{
-    CoreChannel, LockedChannel, RecordedChannel, Slot, TypedChannel, call_site,
+    Access, CoreChannel, LockedChannel, RecordedChannel, Slot, TypedChannel, call_site,
 };
 use crate::channels::handle::{ChannelHandle, Kind};
 use crate::channels::lock::lock;
 use crate::channels::recorder::TextOf;
-use crate::channels::turns::Permit;
 use crate::channels::wait::{BlockedCall, Method, WaitFor};
 use crate::run::operation::Operation;
 use std::sync::{RwLockReadGuard, RwLockWriteGuard};
@@ -137,10 +136,14 @@ impl<T> WatchHandle<T> {
         let method = Method::called("borrow");
         let recorded = self.recorded();
         if recorded.is_quiet(self.number, Operation::Borrow, method.called_at) {
-            self.borrow_by(None, &method, |channel| self.has_changed(channel))
+            // Without a recorder it has code of its own.
+            match self.unordered() {
+                Access { recorder: None, .. } => self.look(Access::default(), &method),
+                access => self.look(access, &method),
+            }
         } else {
-            let permit = self.pass(Operation::Borrow, method.called_at);
-            self.borrow_by(permit, &method, |channel| {
+            let access = self.pass(Operation::Borrow, method.called_at);
+            self.borrow_by(access, &method, |channel| {
                 let has_changed = self.has_changed(channel);
                 channel.call(CoreChannel::watch_borrow);
                 has_changed
@@ -148,18 +151,39 @@ impl<T> WatchHandle<T> {
         }
     }
 
-    /// Returns a reference to the value. The call of this method that looks at it has its turn by
-    /// this permit, and says whether this is a receiver that had yet to see it. The value is locked
+    /// Returns a reference to the value. The call of this method that looks at it is made by this
+    /// access, and says whether this is a receiver that had yet to see it. The value is locked
     /// before the channel, so the value that is returned is the one that the call reads.
     fn borrow_by<'a>(
         &'a self,
-        permit: Option<Permit<'a>>,
+        access: Access<'a>,
         method: &Method,
         call: impl FnOnce(&mut LockedChannel<'_>) -> bool,
     ) -> Ref<'a, T> {
         let inner = self.read_value(method);
-        let mut channel = self.lock_with(permit, method.called_at);
+        let mut channel = self.lock_with(access, method.called_at);
         let has_changed = call(&mut channel);
+        self.looked(channel, inner, has_changed)
+    }
+
+    /// Returns a reference to the value by a call that leaves no entry.
+    #[cfg_attr(debug_assertions, inline(never))]
+    #[cfg_attr(not(debug_assertions), inline(always))]
+    fn look<'a>(&'a self, access: Access<'a>, method: &Method) -> Ref<'a, T> {
+        let inner = self.read_value(method);
+        let mut channel = self.lock_with(access, method.called_at);
+        let has_changed = self.has_changed(&mut channel);
+        self.looked(channel, inner, has_changed)
+    }
+
+    /// Unlocks the channel after a call that looks at the value, and returns a reference to it.
+    #[inline(always)]
+    fn looked<'a>(
+        &'a self,
+        mut channel: LockedChannel<'_>,
+        inner: RwLockReadGuard<'a, T>,
+        has_changed: bool,
+    ) -> Ref<'a, T> {
         let look = self.channel.values.looks.note(&mut channel);
         channel.unlock();
         Ref {

@@ -15,6 +15,8 @@ mod task;
 mod tests;
 mod waker;
 
+use crate::run::listed::IntoList;
+use crate::run::numbered::NumberMap;
 pub(crate) use places::{KeptPlace, PlaceNumber, current_place, kept_place};
 pub(crate) use task::{PollNoted, TaskNoted, WokenFrom};
 pub(crate) use waker::{renews, waker_of_call};
@@ -27,7 +29,7 @@ use crate::channels::turns::explored;
 use crate::run::clock::now;
 use crate::run::sorting::sort_by_key;
 use budget::Budget;
-use std::collections::{HashMap, VecDeque};
+use std::collections::VecDeque;
 use std::sync::atomic::{AtomicBool, AtomicUsize, Ordering};
 use std::sync::{Arc, Mutex, OnceLock, PoisonError, RwLock};
 use std::task::{Context, Poll};
@@ -125,7 +127,7 @@ pub(crate) struct WatchedTest {
 
 #[derive(Default)]
 struct WatchedTasks {
-    by_number: HashMap<u64, Arc<WatchedTask>>,
+    by_number: NumberMap<u64, Arc<WatchedTask>>,
     next: u64,
     // Those that have ended, the first one first.
     ended: VecDeque<u64>,
@@ -185,8 +187,8 @@ impl Shared {
         let watched = self.watched.get()?;
         waker::bind_running();
         watched.look_at_clock();
-        let tasks: Vec<_> = lock(&watched.tasks).by_number.values().cloned().collect();
-        let mut tasks: Vec<_> = tasks.iter().map(|task| task.noted()).collect();
+        let tasks: Vec<_> = lock(&watched.tasks).by_number.values().cloned().listed();
+        let mut tasks: Vec<_> = tasks.iter().map(|task| task.noted()).listed();
         sort_by_key(&mut tasks, |task| task.number);
         let unknown = watched.unknown_since.load(Ordering::Relaxed);
         let noted = NotedTasks {

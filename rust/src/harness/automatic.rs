@@ -24,6 +24,7 @@ use crate::channels::recorder::{
 };
 use crate::channels::turns::explored;
 use crate::harness::program::Program;
+use crate::run::listed::IntoList;
 use std::any::Any;
 use std::cell::Cell;
 use std::panic::Location;
@@ -111,7 +112,7 @@ fn is_chosen(path: &str) -> bool {
 fn only_test() -> Option<&'static str> {
     static ONLY: OnceLock<Option<String>> = OnceLock::new();
     let only = ONLY.get_or_init(|| {
-        let arguments: Vec<_> = env::args().skip(1).collect();
+        let arguments: Vec<_> = env::args().skip(1).listed();
         let mut names = arguments.iter().filter(|word| !word.starts_with('-'));
         let (first, second) = (names.next(), names.next());
         let is_exact = arguments.iter().any(|word| word == "--exact");

@@ -126,26 +126,12 @@ fn process_number() -> u64 {
 #[cfg(test)]
 mod tests {
     use super::*;
+    use crate::temporary::{files_in, fresh};
     use std::thread;
-
-    fn folder(name: &str) -> PathBuf {
-        let folder = crate::temporary::path(name);
-        let _ = fs::remove_dir_all(&folder);
-        folder
-    }
-
-    fn files_in(folder: &Path) -> Vec<String> {
-        let files = fs::read_dir(folder).unwrap();
-        let mut files: Vec<_> = files
-            .map(|file| file.unwrap().file_name().into_string().unwrap())
-            .collect();
-        files.sort();
-        files
-    }
 
     #[test]
     fn a_file_that_cannot_be_written_leaves_all_as_before() {
-        let folder = folder("files-kept");
+        let folder = fresh("files-kept");
         let path = folder.join("x.journal");
         let old: [(_, Option<&[u8]>); 3] = [
             ("journal", Some(b"j1")),
@@ -169,7 +155,7 @@ mod tests {
     #[test]
     #[cfg_attr(target_family = "wasm", ignore = "WebAssembly has no threads")]
     fn files_that_are_replaced_side_by_side_are_of_one() {
-        let folder = folder("files-of-one");
+        let folder = fresh("files-of-one");
         let path = folder.join("x.journal");
         let threads = [b"a", b"b", b"c", b"d"].map(|byte| {
             let path = path.clone();

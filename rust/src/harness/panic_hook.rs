@@ -7,6 +7,7 @@ use super::test_run::TestRun;
 use crate::channels::lock::lock;
 use crate::channels::recorder::text_of;
 use crate::harness::program::Program;
+use crate::run::listed::IntoList;
 use std::io::{self, Write};
 use std::panic::{self, PanicHookInfo};
 use std::sync::{Arc, Mutex};
@@ -74,7 +75,7 @@ fn note(info: &PanicHookInfo<'_>) -> Vec<Ended> {
         let lines = run.write_before_process_ends()?;
         Some(Ended { run, lines })
     });
-    written.collect()
+    written.listed()
 }
 
 /// Whether the process ends after this panic, as it does where panics unwind.

@@ -12,6 +12,7 @@ mod folder;
 mod options;
 mod target;
 
+use crate::run::listed::IntoList;
 pub use cargo::set_patch;
 pub(crate) use cargo::{CargoRun, is_patched};
 pub(crate) use target::{Target, TargetKind};
@@ -76,9 +77,9 @@ impl Program {
     /// Returns the sources of the target's crate, if the compiler has left a list of them.
     pub(crate) fn sources(&self) -> Vec<PathBuf> {
         let sources = target::sources(&self.path);
-        let some: Vec<_> = sources.iter().map(PathBuf::as_path).collect();
+        let some: Vec<_> = sources.iter().map(PathBuf::as_path).listed();
         let root = self.root_of(&some).unwrap_or_default();
-        sources.iter().map(|source| root.join(source)).collect()
+        sources.iter().map(|source| root.join(source)).listed()
     }
 
     /// Returns the folder that the paths of sources are relative to, of which these are some: that

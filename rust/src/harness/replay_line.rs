@@ -5,6 +5,7 @@ use super::automatic;
 use super::test_run::TestRun;
 use crate::channels::recorder::REPLAY;
 use crate::harness::program::{CargoRun, Program, TargetKind};
+use crate::run::listed::{IntoList, PushAll};
 use crate::schedule::explore::FOR;
 use std::env;
 use std::path::Path;
@@ -15,9 +16,9 @@ pub(super) fn of(journal: &Path, test: &TestRun) -> String {
         return line;
     }
     let program = Program::this();
-    let arguments: Vec<_> = env::args().skip(1).collect();
+    let arguments: Vec<_> = env::args().skip(1).listed();
     let mut words = vec![assigned(REPLAY, &journal.to_string_lossy())];
-    words.extend(env::var(FOR).ok().map(|asked| assigned(FOR, &asked)));
+    words.push_all(env::var(FOR).ok().map(|asked| assigned(FOR, &asked)));
     let of_harness = of_harness(
         &program.target.kind,
         program.target.is_test,
@@ -27,7 +28,7 @@ pub(super) fn of(journal: &Path, test: &TestRun) -> String {
     match &program.package {
         Some(package) if program.is_run_by_cargo => {
             let run = CargoRun::of(program);
-            words.extend(cargo_words(&run, package, &program.target.words()));
+            words.push_all(cargo_words(&run, package, &program.target.words()));
             let behind = of_harness.unwrap_or(if program.target.is_test {
                 vec![]
             } else {
@@ -35,12 +36,12 @@ pub(super) fn of(journal: &Path, test: &TestRun) -> String {
             });
             if !behind.is_empty() {
                 words.push("--".to_string());
-                words.extend(behind.iter().map(|word| quoted(word)));
+                words.push_all(behind.iter().map(|word| quoted(word)));
             }
         }
         _ => {
             words.push(quoted(&program.path.to_string_lossy()));
-            words.extend(
+            words.push_all(
                 of_harness
                     .unwrap_or(arguments)
                     .iter()
@@ -62,11 +63,11 @@ fn cargo_words(run: &CargoRun, package: &str, target: &[String]) -> Vec<String> 
     let variables = run.variables.iter();
     let mut words: Vec<_> = variables
         .map(|(name, value)| assigned(name, value))
-        .collect();
-    words.extend(["cargo".to_string(), quoted(&run.verb)]);
-    words.extend(run.options.iter().map(|option| quoted(option)));
-    words.extend(["-p".to_string(), quoted(package)]);
-    words.extend(target.iter().map(|word| quoted(word)));
+        .listed();
+    words.push_all(["cargo".to_string(), quoted(&run.verb)]);
+    words.push_all(run.options.iter().map(|option| quoted(option)));
+    words.push_all(["-p".to_string(), quoted(package)]);
+    words.push_all(target.iter().map(|word| quoted(word)));
     words
 }
 
@@ -89,7 +90,7 @@ fn of_harness(
     let name = Some(test.thread.clone()).filter(|name| is_name_of_test(name));
     let mut words = vec![name.or(given)?, "--exact".to_string()];
     let is_ignored = |word: &String| word == "--ignored" || word == "--include-ignored";
-    words.extend(
+    words.push_all(
         arguments
             .iter()
             .any(is_ignored)

@@ -15,10 +15,12 @@ use crate::channels::wait::{Awaited, Wait};
 use crate::core::lists::reserved;
 use crate::core::source::rw_law::NoMemory;
 use crate::harness::program::Program;
+use crate::run::by_text::TextMap;
 use crate::run::journal;
+use crate::run::listed::{IntoList, PushAll};
+use crate::run::numbered::NumberMap;
 use crate::run::sidecar::{HeldBy, Sidecar, SourceLocation, WaitingCall};
 use crate::run::sorting::sort_by_key;
-use std::collections::HashMap;
 use std::panic::Location;
 use std::path::Path;
 use std::sync::Arc;
@@ -198,7 +200,7 @@ impl RunSoFar<'_> {
                 }
                 None => lock(channel).kept(self.shared.times).map_err(no_memory)?,
             };
-            channels.extend(kept);
+            channels.push_all(kept);
         }
         let (mut names, mut indexes) = (Sidecar::default(), Indexes::default());
         self.add_shared(&mut names, &mut indexes);
@@ -235,7 +237,7 @@ impl RunSoFar<'_> {
             // Under the channel's lock: an actor has its name before it waits.
             let actors = lock(&self.shared.actors).names();
             let name = |actor: Actor| actors[actor.number() as usize].clone();
-            waiting.extend(calls.map(|call| Waiting::new(&call, number, &state, name)));
+            waiting.push_all(calls.map(|call| Waiting::new(&call, number, &state, name)));
         }
         sort_by_key(&mut waiting, Waiting::since);
         waiting
@@ -404,7 +406,9 @@ const RECENT: usize = 16;
 #[derive(Default)]
 pub(super) struct Indexes {
     locations: Vec<SourceLocation>,
-    by_location: HashMap<&'static Location<'static>, usize>,
+    by_address: NumberMap<usize, usize>,
+    // One that is at several addresses is one text.
+    by_text: TextMap<usize>,
     // Some that were looked up last, by a part of their address.
     recent: [Option<(&'static Location<'static>, usize)>; RECENT],
 }
@@ -417,9 +421,15 @@ impl Indexes {
                 return index;
             }
         }
-        let index = *self.by_location.entry(location).or_insert_with(|| {
-            self.locations.push(location.into());
-            self.locations.len() - 1
+        let index = *self.by_address.get_or_insert_with(address, || {
+            let index = self.locations.len();
+            let known = self
+                .by_text
+                .get_or_insert_with(&location.to_string(), || index);
+            if *known == index {
+                self.locations.push(location.into());
+            }
+            *known
         });
         self.recent[address % RECENT] = Some((location, index));
         index
@@ -439,7 +449,7 @@ impl Indexes {
         sites
             .iter()
             .map(|site| site.map(|location| self.of(location)))
-            .collect()
+            .listed()
     }
 }
 
@@ -477,9 +487,7 @@ fn begun_call(
         since: wait.since,
         location: wait.method.called_at.map(index_of),
         held_by,
-        woken: None,
-        until: None,
-        waited: None,
+        ..WaitingCall::default()
     }
 }
 
@@ -518,13 +526,13 @@ fn add_channel(names: &mut Sidecar, indexes: &mut Indexes, number: u64, channel:
     let nth = |wait: &Wait| channel.core.nth(wait.handle);
     let waits = channel.who_waits();
     let waits = waits.map(|call| indexes.waiting(&call, number, nth(&call.wait)));
-    names.waiting.extend(waits);
+    names.waiting.push_all(waits);
     let dropped = seldom.dropped_waits.iter().map(|dropped| WaitingCall {
         until: Some(dropped.until),
         waited: dropped.waited.map(|waited| waited.as_micros() as u64),
         ..indexes.begun(&dropped.wait, number, nth(&dropped.wait))
     });
-    names.dropped_waits.extend(dropped);
+    names.dropped_waits.push_all(dropped);
 }
 
 #[cfg(test)]

@@ -6,18 +6,18 @@ mod binding;
 
 use crate::core::source::rw_handles::Kind;
 use crate::harness::program::Program;
+use crate::run::by_text::TextMap;
 use crate::run::journal::Run;
 use crate::run::numbered::NumberMap;
 use crate::run::sidecar::{Sidecar, SourceLocation};
 use binding::Bound;
-use std::collections::HashMap;
 use std::fs;
 use std::path::Path;
 
 /// Sources that were read, by their names. `None` for one that can't be read, or that was written
 /// after the program.
 #[derive(Default)]
-struct Sources(HashMap<String, Option<String>>);
+struct Sources(TextMap<Option<String>>);
 
 impl Sources {
     fn bound(&mut self, root: &Path, at: &SourceLocation) -> Option<Bound> {
@@ -29,7 +29,7 @@ impl Sources {
             }
             fs::read_to_string(&path).ok()
         };
-        let text = self.0.entry(at.file.clone()).or_insert_with(read);
+        let text = self.0.get_or_insert_with(&at.file, read);
         binding::bound(text.as_ref()?, at.line, at.column)
     }
 }
@@ -82,9 +82,9 @@ pub(super) fn add(names: &mut Sidecar, run: &Run) {
 
 /// Numbers those after the first that have the same name.
 fn tell_apart<'a>(names: impl Iterator<Item = &'a mut String>) {
-    let mut seen: HashMap<String, usize> = HashMap::new();
+    let mut seen: TextMap<usize> = TextMap::new();
     for name in names {
-        let count = seen.entry(name.clone()).or_default();
+        let count = seen.get_or_default(name);
         *count += 1;
         if *count > 1 {
             *name = format!("{name}#{count}");

@@ -12,10 +12,11 @@ use crate::channels::recorder::{
     MOST_BYTES, NotedPanic, PATIENCE, Shared, TestCount, WaitThen, is_entered, next_moment,
 };
 use crate::harness::program::{Program, is_patched};
+use crate::run::by_text::TextMap;
+use crate::run::listed::IntoList;
 use crate::run::numbered::NumberMap;
 use crate::run::sidecar::{Returned, Sidecar, SourceLocation, TestId};
 use std::backtrace::Backtrace;
-use std::collections::BTreeMap;
 use std::fmt;
 use std::panic::{Location, PanicHookInfo};
 use std::sync::atomic::{AtomicBool, Ordering};
@@ -79,7 +80,7 @@ struct Noted {
 }
 
 /// How many tests each thread has begun, by the names of the thread and of the test.
-static BEGUN: Mutex<BTreeMap<(String, String), u64>> = Mutex::new(BTreeMap::new());
+static BEGUN: Mutex<TextMap<u64>> = Mutex::new(TextMap::new());
 
 /// How many tests are known by the numbers of their recorders.
 const MOST_NAMES: usize = 1000;
@@ -106,16 +107,18 @@ pub(super) fn name_of_thread() -> String {
 
 /// How many tests with this name this thread has begun.
 pub(super) fn begun(name: &str) -> u64 {
-    let key = (name_of_thread(), name.to_string());
-    lock(&BEGUN).get(&key).copied().unwrap_or(0)
+    lock(&BEGUN).get(&on_thread(name)).copied().unwrap_or(0)
+}
+
+/// Returns the names of this thread and of a test as one. No thread's has the character between.
+fn on_thread(name: &str) -> String {
+    format!("{}\0{name}", name_of_thread())
 }
 
 /// Notes that this thread begins a test with this name, and returns how many it had begun before.
 fn begin_next(name: &str) -> u64 {
     let mut begun = lock(&BEGUN);
-    let count = begun
-        .entry((name_of_thread(), name.to_string()))
-        .or_default();
+    let count = begun.get_or_default(&on_thread(name));
     *count += 1;
     *count - 1
 }
@@ -156,7 +159,7 @@ impl TestRun {
         let alive: Vec<_> = alive.map_or_else(Vec::new, |alive| alive.clone());
         let runs = alive.iter().filter_map(Weak::upgrade);
         runs.filter(|run| is_entered(run.recorder_id) || actors::has_called(run.recorder_id))
-            .collect()
+            .listed()
     }
 
     /// Notes a panic of this thread.
@@ -288,7 +291,7 @@ impl TestRun {
         let noted = lock(&self.noted);
         let count = noted.ended_by.map_or(usize::MAX, |index| index + 1);
         let panics = noted.panics.iter().take(count);
-        panics.map(|it| it.panic.clone()).collect()
+        panics.map(|it| it.panic.clone()).listed()
     }
 
     /// Returns which test it is.

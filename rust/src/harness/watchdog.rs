@@ -9,6 +9,7 @@ use crate::channels::recorder::Shared;
 use crate::run::report::Report;
 use crate::schedule::explore::WaitingTask;
 use std::io::{self, Write};
+use std::path::PathBuf;
 use std::sync::Arc;
 use std::sync::mpsc::{self, Receiver, RecvTimeoutError, Sender, TryRecvError};
 use std::thread;
@@ -17,12 +18,16 @@ use std::time::Duration;
 /// How many calls that wait are listed. The others are counted.
 const LISTED: usize = 10;
 
+/// What could be sent to a watchdog, and never is. Dumps send it: for another type rustc would
+/// compile all of std's channels again.
+type Unsent = io::Result<PathBuf>;
+
 /// A thread that waits until the test has ended, or some time has passed. It ends with the test,
 /// which never waits for it.
 #[derive(Debug)]
 pub(super) struct Watchdog {
     // Nothing is sent. The drop of this says that the test has ended.
-    _is_running: Sender<()>,
+    _is_running: Sender<Unsent>,
 }
 
 impl Watchdog {
@@ -36,7 +41,8 @@ impl Watchdog {
             ended,
         };
         let thread = thread::Builder::new().name("yovanelum-watchdog".into());
-        if let Err(error) = thread.spawn(move || watched.wait()) {
+        let watch: Box<dyn FnOnce() + Send> = Box::new(move || watched.wait());
+        if let Err(error) = thread.spawn(watch) {
             eprintln!("yovanelum: no watchdog watches {name}: {error}");
         }
         Watchdog {
@@ -49,15 +55,16 @@ impl Watchdog {
 struct Watched {
     test: Arc<TestRun>,
     after: Duration,
-    ended: Receiver<()>,
+    ended: Receiver<Unsent>,
 }
 
 impl Watched {
     fn wait(&self) {
-        if self.ended.recv_timeout(self.after) == Err(RecvTimeoutError::Timeout) {
+        let ended = self.ended.recv_timeout(self.after);
+        if matches!(ended, Err(RecvTimeoutError::Timeout)) {
             let _writing = lock(&WRITING);
             // A test that has ended since has written what there was to write.
-            let has_ended = self.ended.try_recv() == Err(TryRecvError::Disconnected);
+            let has_ended = matches!(self.ended.try_recv(), Err(TryRecvError::Disconnected));
             if let Some(recorder) = self.test.recorder.upgrade().filter(|_| !has_ended) {
                 let why = format!("has not ended after {:?}", self.after);
                 self.test.report_waiting(&recorder, &why, false);

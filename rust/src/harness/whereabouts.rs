@@ -10,6 +10,8 @@ use crate::channels::whereabouts::{
     KeptPlace, PlaceNumber, PollNoted, TaskNoted, WokenFrom, kept_place,
 };
 use crate::harness::program::Program;
+use crate::run::listed::IntoList;
+use crate::run::numbered::{NumberMap, NumberSet};
 use crate::run::sidecar::{
     SeenPlace, SeenPoll, SeenTask, SeenWake, Sidecar, SourceLocation, TasksSeen, WokenBy,
     is_downloaded,
@@ -18,7 +20,6 @@ use crate::schedule::explore::NamedPlace;
 use functions::ReadSources;
 use stack::{PrintedStack, StackFrame};
 use std::backtrace::Backtrace;
-use std::collections::{HashMap, HashSet};
 use std::env;
 use std::path::{Path, PathBuf};
 
@@ -48,7 +49,7 @@ impl RunSoFar<'_> {
             return;
         };
         let paths = names.locations.iter().map(|at| Path::new(&at.file));
-        let root = Program::this().root_of(&paths.collect::<Vec<_>>());
+        let root = Program::this().root_of(&paths.listed());
         let here = env::current_dir().unwrap_or_default();
         let root = root.unwrap_or_else(|| here.clone());
         let mut naming = PlaceNaming::new(names, root, here);
@@ -56,7 +57,7 @@ impl RunSoFar<'_> {
             .zip(&noted.tasks)
             .map(|(index, it)| (it.number, index))
             .collect();
-        let tasks = noted.tasks.iter().map(|task| naming.task(task)).collect();
+        let tasks = noted.tasks.iter().map(|task| naming.task(task)).listed();
         let mut seen = TasksSeen {
             has_times: noted.has_times,
             now: noted.now / 1000,
@@ -110,13 +111,13 @@ struct PlaceNaming<'a> {
     root: PathBuf,
     here: PathBuf,
     // The index of each task by its number.
-    tasks: HashMap<u64, usize>,
+    tasks: NumberMap<u64, usize>,
     // A small number of each thread.
-    threads: HashMap<usize, u64>,
-    places: HashMap<PlaceNumber, usize>,
-    by: HashMap<PlaceNumber, Waking>,
+    threads: NumberMap<usize, u64>,
+    places: NumberMap<PlaceNumber, usize>,
+    by: NumberMap<PlaceNumber, Waking>,
     // Those where a task waits for a thread of the runtime.
-    of_threads: HashSet<PlaceNumber>,
+    of_threads: NumberSet<PlaceNumber>,
     made: Vec<SeenPlace>,
     sources: ReadSources,
 }
@@ -127,11 +128,11 @@ impl<'a> PlaceNaming<'a> {
             root,
             here,
             names,
-            tasks: HashMap::new(),
-            threads: HashMap::new(),
-            places: HashMap::new(),
-            by: HashMap::new(),
-            of_threads: HashSet::new(),
+            tasks: NumberMap::new(),
+            threads: NumberMap::new(),
+            places: NumberMap::new(),
+            by: NumberMap::new(),
+            of_threads: NumberSet::new(),
             made: vec![],
             sources: ReadSources::default(),
         }
@@ -162,7 +163,7 @@ impl<'a> PlaceNaming<'a> {
 
     fn polls(&mut self, polls: &[PollNoted]) -> Vec<SeenPoll> {
         let seen = polls.iter().map(|poll| self.poll(poll));
-        let mut seen: Vec<_> = seen.collect();
+        let mut seen: Vec<_> = seen.listed();
         let last = polls.last().and_then(|poll| poll.woken.as_ref());
         if let Some(poll) = seen
             .last_mut()
@@ -189,7 +190,7 @@ impl<'a> PlaceNaming<'a> {
             end: poll.end.map(|end| end / 1000),
             before: poll.before,
             after: poll.after,
-            thread: *self.threads.entry(poll.thread).or_insert(threads),
+            thread: *self.threads.get_or_insert_with(poll.thread, || threads),
             places: seen,
             woken: poll.woken.as_ref().map(|woken| SeenWake {
                 at: woken.at / 1000,

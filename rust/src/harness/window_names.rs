@@ -7,11 +7,12 @@ use crate::channels::channel::{NotedChannel, WaitNow};
 use crate::channels::recorder::Why;
 use crate::core::lists::{collected, reserved};
 use crate::core::source::rw_law::NoMemory;
+use crate::run::by_text::TextMap;
 use crate::run::clock::{Moment, wall};
+use crate::run::listed::PushAll;
 use crate::run::numbered::{NumberMap, NumberSet};
 use crate::run::sidecar::{ChannelWindow, Sidecar, WindowNames};
 use crate::run::sorting::sort_by_key;
-use std::collections::HashMap;
 use std::iter;
 use std::sync::Arc;
 
@@ -191,17 +192,17 @@ struct Adding<'a> {
 
 /// The numbers of callers that share one in the journal, by their names. No actor has them.
 #[derive(Default)]
-struct Callers(HashMap<Arc<str>, u64>);
+struct Callers(TextMap<u64>);
 
 impl Callers {
     fn number(&mut self, name: &Arc<str>) -> u64 {
         let next = (Actor::MOST + self.0.len()) as u64;
-        *self.0.entry(name.clone()).or_insert(next)
+        *self.0.get_or_insert_with(name, || next)
     }
 
     /// Adds their names to those of the actors.
     fn add_to(self, names: &mut Sidecar) {
-        let named = self.0.into_iter();
+        let named = self.0.into_items().into_iter();
         names
             .actors
             .extend(named.map(|(name, number)| (number, name.to_string())));
@@ -293,7 +294,7 @@ impl Adding<'_> {
             let handle = self.window.number(*handle)?;
             Some(self.indexes.waiting(call, self.number, handle.into()))
         });
-        self.names.waiting.extend(waits);
+        self.names.waiting.push_all(waits);
     }
 
     /// Returns how the window of the channel begins.

@@ -5,6 +5,8 @@ use crate::channels::backend::{Cut, CutFault, ENTRIES_AT_MOST, Kept, Lead, Windo
 use crate::core::lists::{collected, reserved};
 use crate::core::source::rw_law::NoMemory;
 use crate::run::journal::Run;
+use crate::run::listed::IntoList;
+use crate::run::sorting::sort_by_key;
 use std::io;
 
 /// How many entries the journal of a flight recorder has at most, all channels together.
@@ -133,7 +135,7 @@ fn fit(channels: Vec<Calls>, most: Most) -> Result<Vec<(Lead, u64)>, WindowFault
     loop {
         let leads = leads(all)?;
         let entries: u64 = leads.iter().map(|(lead, _)| lead.len()).sum();
-        let calls: Vec<u64> = leads.iter().map(|(lead, _)| lead.calls()).collect();
+        let calls: Vec<u64> = leads.iter().map(|(lead, _)| lead.calls()).listed();
         let room = most.all.saturating_sub(entries);
         let (few, none) = (
             calls.iter().sum::<u64>() <= room,
@@ -166,7 +168,7 @@ fn leads(channels: Vec<Kept>) -> Result<Vec<(Lead, u64)>, WindowFault> {
 /// Leaves out the first calls of the longest channels, so that all have no more calls than this
 /// together.
 fn share(channels: &mut [Kept], most: u64) -> Result<(), NoMemory> {
-    let most = greatest_share(channels.iter().map(Kept::len).collect(), most);
+    let most = greatest_share(channels.iter().map(Kept::len).listed(), most);
     channels.iter_mut().try_for_each(|kept| skip_to(kept, most))
 }
 
@@ -180,7 +182,7 @@ fn skip_to(kept: &mut Kept, most: u64) -> Result<(), NoMemory> {
 
 /// Returns how many calls each channel may have, so that all have no more than this together.
 fn greatest_share(mut lengths: Vec<u64>, most: u64) -> u64 {
-    lengths.sort_unstable();
+    sort_by_key(&mut lengths, |length| *length);
     let (mut left, mut others) = (most, lengths.len() as u64);
     for length in lengths {
         if length > left / others {

@@ -42,6 +42,7 @@ mod window;
 mod windowed;
 mod woken;
 
+use crate::run::listed::IntoList;
 pub(crate) use fact::{Fact, FactStep, Level, Role};
 pub(crate) use failed::Failed;
 pub(crate) use lateness::PendingTask;
@@ -57,9 +58,11 @@ use finding::{Finding, orders};
 use history::History;
 use lateness::Lateness;
 use naming::Naming;
+use std::cell::OnceCell;
 use times::WindowTimes;
 use traffic::Traffic;
 use window::WindowSaid;
+use woken::Causes;
 
 /// How many facts a report tells in full. The others are counted.
 const MOST_TOLD: usize = 3;
@@ -78,9 +81,17 @@ struct Context<'a> {
     findings: &'a Findings,
     traffic: &'a Traffic,
     lateness: Lateness<'a>,
+    // Found where they are first asked for.
+    causes: OnceCell<Causes>,
 }
 
 impl Context<'_> {
+    /// Returns what may have woken calls that wait.
+    fn causes(&self) -> &Causes {
+        self.causes
+            .get_or_init(|| Causes::of(self.run, self.names, self.history))
+    }
+
     /// Returns the text of the panic that ended the test, or of the error that it returned.
     fn failure_text(&self) -> Option<&str> {
         let end = self.failure.end()?;
@@ -171,10 +182,10 @@ impl Context<'_> {
         let time = self.times.at(stamp).map(|time| time.text());
         let number = window::number_in_snapshots(self.names, stamp);
         let number = number.map(|number| format!("{number} in snapshots"));
-        let known: Vec<_> = time.into_iter().chain(number).collect();
+        let known: Vec<_> = time.into_iter().chain(number).listed();
         let known = (!known.is_empty()).then(|| known.join(", "));
         let said = (!said.is_empty()).then_some(said);
-        said.into_iter().chain(known).collect::<Vec<_>>().join("; ")
+        said.into_iter().chain(known).listed().join("; ")
     }
 
     /// Returns the call with this number as a step, as it was called.
@@ -232,59 +243,34 @@ impl Context<'_> {
     /// Returns what caused a fact before the window as its step: at the place where that begins.
     fn step_before(&self, what: String) -> FactStep {
         let nothing = String::new;
-        FactStep {
-            place: self.history.lead,
-            role: Role::Cause,
-            actor: None,
-            location: None,
-            made: None,
-            time: None,
-            stamp: None,
-            cells: [
-                window::BEFORE.to_string(),
-                what,
-                nothing(),
-                nothing(),
-                nothing(),
-            ],
-        }
+        let before = window::BEFORE.to_string();
+        let cells = [before, what, nothing(), nothing(), nothing()];
+        FactStep::new(self.history.lead, Role::Cause, cells)
     }
 
     /// Returns what ended the test as a step of a fact.
     fn failure_step(&self, failure: FailureAt, what: String, said: String) -> FactStep {
         let location = self.naming.source(failure.location.unwrap_or(usize::MAX));
         let actor = failure.actor.map(|actor| self.naming.actor(actor));
+        let cells = [
+            failure.name.to_string(),
+            what,
+            actor.unwrap_or_default(),
+            location.map_or(String::new(), visible::line_of),
+            said,
+        ];
         FactStep {
-            place: failure.place,
-            role: Role::Failure,
             actor: failure.actor,
             location: location.cloned(),
-            made: None,
-            time: None,
-            stamp: None,
-            cells: [
-                failure.name.to_string(),
-                what,
-                actor.unwrap_or_default(),
-                location.map_or(String::new(), visible::line_of),
-                said,
-            ],
+            ..FactStep::new(failure.place, Role::Failure, cells)
         }
     }
 
     /// Returns the end of the run as a step of a fact.
     fn end_step(&self, what: String, said: String) -> FactStep {
         let nothing = String::new;
-        FactStep {
-            place: self.run.len(),
-            role: Role::End,
-            actor: None,
-            location: None,
-            made: None,
-            time: None,
-            stamp: None,
-            cells: ["the end".to_string(), what, nothing(), nothing(), said],
-        }
+        let cells = ["the end".to_string(), what, nothing(), nothing(), said];
+        FactStep::new(self.run.len(), Role::End, cells)
     }
 }
 
@@ -387,11 +373,12 @@ impl Account {
             findings,
             traffic,
             lateness: Lateness::of(run, names, history),
+            causes: OnceCell::new(),
         };
         let found = Finding::all(&context);
         let unknown = unknown::lines(&context);
         let worded = found.iter().take(MOST_FACTS);
-        let facts: Vec<_> = worded.map(|finding| finding.fact(&context)).collect();
+        let facts: Vec<_> = worded.map(|finding| finding.fact(&context)).listed();
         let failure = context.failure.end().map(|end| end.place);
         Account {
             calls: history.calls(),
@@ -408,7 +395,7 @@ impl Account {
             facts,
             rest: Rest::of(&found),
             waiting: waits::all(&context, &found[..Finding::told_in_full(&found)]),
-            losses: context.traffic.losses().iter().map(|it| it.loss).collect(),
+            losses: context.traffic.losses().iter().map(|it| it.loss).listed(),
             pending: if has_waited(&context, &found) {
                 lateness::pending(&context)
             } else {

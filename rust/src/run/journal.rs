@@ -186,6 +186,8 @@ impl Run {
     }
 
     fn with_own_actor(&self, place: u64, mut entry: RunEntry) -> RunEntry {
+        #[cfg(test)]
+        crate::run::steps::add(1);
         if let Some(actor) = self.1.get(&place) {
             entry.actor = *actor;
         }

@@ -2,6 +2,7 @@
 //! rustc compiles once: a `BTreeMap` of each type of value took a fifth of the crate's time.
 
 use crate::core::source::rw_law::NoMemory;
+use crate::run::listed::IntoList;
 use crate::run::sorting::move_to_places;
 use std::collections::{BTreeMap, btree_map};
 use std::fmt;
@@ -117,7 +118,7 @@ impl<K, V> NumberMap<K, V> {
 
     /// Moves the items into the order of their keys.
     fn sort(&mut self) {
-        let places = self.places.values().copied().collect();
+        let places = self.places.values().copied().listed();
         move_to_places(places, &mut |one, other| self.items.swap(one, other));
         for (place, of_key) in self.places.values_mut().enumerate() {
             *of_key = place;
@@ -344,7 +345,7 @@ impl<K: Numbered> IntoIterator for NumberSet<K> {
     type IntoIter = vec::IntoIter<K>;
 
     fn into_iter(self) -> Self::IntoIter {
-        let keys: Vec<_> = self.iter().copied().collect();
+        let keys: Vec<_> = self.iter().copied().listed();
         keys.into_iter()
     }
 }

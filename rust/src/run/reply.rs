@@ -36,54 +36,92 @@ pub(crate) enum Reply {
 
 impl Reply {
     /// Returns what a call returns that the core has made, or hasn't.
-    // The replies that calls have most often are tested first, and the others apart.
-    #[inline(always)]
     pub(crate) fn of(made: Result<ChanReply<u64>, TakeFault>) -> Reply {
+        Reply::of_call::<false>(made)
+    }
+
+    /// As [`of`](Reply::of), of a call that makes or drops handles, or of another one.
+    // The replies that calls have most often are tested here: of those two kinds, each its own. So
+    // they are too few for a table of jumps. The rest is passed on, so small that it is passed in
+    // registers. Else each reply would be stored in memory.
+    #[inline(always)]
+    pub(crate) fn of_call<const OF_HANDLES: bool>(
+        made: Result<ChanReply<u64>, TakeFault>,
+    ) -> Reply {
         match made {
-            Ok(ChanReply::B(BReply::Value(value)) | ChanReply::W(WReply::Value(value))) => {
-                Reply::Value(value)
-            }
-            Ok(ChanReply::B(BReply::Sent(receivers))) => Reply::Sent(receivers),
-            Ok(ChanReply::B(BReply::Empty)) => Reply::Empty,
-            Ok(ChanReply::W(WReply::Stored)) => Reply::Stored,
-            Ok(ChanReply::B(BReply::New(handle)) | ChanReply::W(WReply::New(handle))) => {
+            Ok(ChanReply::B(BReply::New(handle)) | ChanReply::W(WReply::New(handle)))
+                if OF_HANDLES =>
+            {
                 Reply::New(handle.into())
             }
-            Ok(ChanReply::B(BReply::Dropped) | ChanReply::W(WReply::Dropped)) => Reply::Dropped,
-            other => Reply::of_other(other),
+            Ok(ChanReply::B(BReply::Dropped) | ChanReply::W(WReply::Dropped)) if OF_HANDLES => {
+                Reply::Dropped
+            }
+            Ok(ChanReply::B(BReply::Value(value)) | ChanReply::W(WReply::Value(value)))
+                if !OF_HANDLES =>
+            {
+                Reply::Value(value)
+            }
+            Ok(ChanReply::B(BReply::Sent(receivers))) if !OF_HANDLES => Reply::Sent(receivers),
+            Ok(ChanReply::B(BReply::Empty)) if !OF_HANDLES => Reply::Empty,
+            Ok(ChanReply::W(WReply::Stored)) if !OF_HANDLES => Reply::Stored,
+            Ok(ChanReply::B(other)) => Reply::of_broadcast(other),
+            Ok(ChanReply::W(other)) => Reply::of_watch(other),
+            Ok(ChanReply::NoChannel) => Reply::NoChannel,
+            Err(fault) => Reply::of_fault(fault),
         }
     }
 
     #[inline(never)]
-    fn of_other(made: Result<ChanReply<u64>, TakeFault>) -> Reply {
-        use ChanReply::{B, NoChannel, W};
+    fn of_broadcast(reply: BReply<u64>) -> Reply {
+        match reply {
+            BReply::Sent(receivers) => Reply::Sent(receivers),
+            BReply::NoReceivers(value) => Reply::NoReceivers(value),
+            BReply::Value(value) => Reply::Value(value),
+            BReply::Lagged(count) => Reply::Lagged(count),
+            BReply::Empty => Reply::Empty,
+            BReply::Closed => Reply::Closed,
+            BReply::New(handle) => Reply::New(handle.into()),
+            BReply::Dropped => Reply::Dropped,
+            BReply::Count(count) => Reply::Count(count),
+            BReply::Unknown => Reply::Unknown,
+            BReply::Gone => Reply::Gone,
+            BReply::WrongKind => Reply::WrongKind,
+            BReply::TooManyHandles => Reply::TooManyHandles,
+            BReply::NoSender => Reply::NoSender,
+            BReply::Waits => Reply::Waits,
+        }
+    }
 
-        match made {
-            Ok(B(BReply::Sent(receivers))) => Reply::Sent(receivers),
-            Ok(B(BReply::NoReceivers(value)) | W(WReply::NoReceivers(value))) => {
-                Reply::NoReceivers(value)
-            }
-            Ok(B(BReply::Value(value)) | W(WReply::Value(value))) => Reply::Value(value),
-            Ok(B(BReply::Lagged(count))) => Reply::Lagged(count),
-            Ok(B(BReply::Empty)) => Reply::Empty,
-            Ok(B(BReply::Closed) | W(WReply::Closed)) => Reply::Closed,
-            Ok(B(BReply::New(handle)) | W(WReply::New(handle))) => Reply::New(handle.into()),
-            Ok(B(BReply::Dropped) | W(WReply::Dropped)) => Reply::Dropped,
-            Ok(B(BReply::Count(count)) | W(WReply::Count(count))) => Reply::Count(count),
-            Ok(B(BReply::Unknown) | W(WReply::Unknown)) => Reply::Unknown,
-            Ok(B(BReply::Gone) | W(WReply::Gone)) => Reply::Gone,
-            Ok(B(BReply::WrongKind) | W(WReply::WrongKind)) => Reply::WrongKind,
-            Ok(B(BReply::TooManyHandles) | W(WReply::TooManyHandles)) => Reply::TooManyHandles,
-            Ok(B(BReply::NoSender)) => Reply::NoSender,
-            Ok(W(WReply::Stored)) => Reply::Stored,
-            Ok(W(WReply::Old(value))) => Reply::Old(value),
-            Ok(W(WReply::Told(told))) => Reply::Told(told.into()),
-            Ok(W(WReply::Flag(flag))) => Reply::Flag(flag.into()),
-            Ok(W(WReply::Done)) => Reply::Done,
-            Ok(B(BReply::Waits) | W(WReply::Waits)) | Err(TakeFault::Waits) => Reply::Waits,
-            Ok(NoChannel) | Err(TakeFault::NoChannel) => Reply::NoChannel,
-            Err(TakeFault::JournalFull) => Reply::JournalFull,
-            Err(TakeFault::NoMemory) => Reply::NoMemory,
+    #[inline(never)]
+    fn of_watch(reply: WReply<u64>) -> Reply {
+        match reply {
+            WReply::Stored => Reply::Stored,
+            WReply::NoReceivers(value) => Reply::NoReceivers(value),
+            WReply::Old(value) => Reply::Old(value),
+            WReply::Told(told) => Reply::Told(told.into()),
+            WReply::New(handle) => Reply::New(handle.into()),
+            WReply::Value(value) => Reply::Value(value),
+            WReply::Flag(flag) => Reply::Flag(flag.into()),
+            WReply::Closed => Reply::Closed,
+            WReply::Waits => Reply::Waits,
+            WReply::Done => Reply::Done,
+            WReply::Count(count) => Reply::Count(count),
+            WReply::Dropped => Reply::Dropped,
+            WReply::Unknown => Reply::Unknown,
+            WReply::Gone => Reply::Gone,
+            WReply::WrongKind => Reply::WrongKind,
+            WReply::TooManyHandles => Reply::TooManyHandles,
+        }
+    }
+
+    #[cold]
+    fn of_fault(fault: TakeFault) -> Reply {
+        match fault {
+            TakeFault::Waits => Reply::Waits,
+            TakeFault::NoChannel => Reply::NoChannel,
+            TakeFault::JournalFull => Reply::JournalFull,
+            TakeFault::NoMemory => Reply::NoMemory,
         }
     }
 
@@ -113,9 +151,16 @@ impl Reply {
         matches!(self, Reply::Stored | Reply::Old(_) | Reply::Told(_))
     }
 
+    /// Whether the call has sent a value that receivers learn of, or changed that of a watch so.
+    pub(crate) fn is_change(self) -> bool {
+        matches!(
+            self,
+            Reply::Sent(_) | Reply::Stored | Reply::Old(_) | Reply::Told(1)
+        )
+    }
+
     /// Whether a call that is recorded has left an entry, of which this is the reply.
-    #[cfg_attr(debug_assertions, inline(never))]
-    #[cfg_attr(not(debug_assertions), inline)]
+    #[inline(always)]
     pub(crate) fn leaves_entry(self) -> bool {
         !matches!(
             self,

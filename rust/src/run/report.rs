@@ -12,6 +12,7 @@ mod tests;
 mod workflow;
 mod wrapping;
 
+use crate::run::listed::{IntoList, PushAll};
 pub(crate) use sarif::sarif;
 
 use crate::run::account::visible::{self, first, path};
@@ -112,11 +113,11 @@ impl Report {
         let mut lines = self.before_facts();
         for (level, fact) in self.told() {
             push_fact(&mut lines, (fact, level), colours, self.1.as_ref());
-            lines.extend(strips.iter().flat_map(|strips| strips.below(fact)));
+            lines.push_all(strips.iter().flat_map(|strips| strips.below(fact)));
         }
-        lines.extend(self.after_facts(colours));
-        lines.extend(self.commands());
-        lines.extend(look.map(|look| format!("{} {look}", colours.look("look:"))));
+        lines.push_all(self.after_facts(colours));
+        lines.push_all(self.commands());
+        lines.push_all(look.map(|look| format!("{} {look}", colours.look("look:"))));
         lines.iter().map(|line| format!("{line}\n")).collect()
     }
 
@@ -148,7 +149,7 @@ impl Report {
         let window = window.chain((!why.is_empty()).then_some(line));
         let in_snapshots = account.window.iter().flat_map(|it| &it.in_snapshots);
         let in_snapshots = in_snapshots.map(|line| format!("yovanelum: {line}"));
-        window.chain(in_snapshots).chain(failed).collect()
+        window.chain(in_snapshots).chain(failed).listed()
     }
 
     /// Returns the lines of the other facts, of what was not found, and of the calls that wait.
@@ -158,7 +159,7 @@ impl Report {
         let nothing = nothing.map(|line| format!("yovanelum: {line}"));
         let waits = account.waiting.iter().filter(|wait| !wait.is_told);
         let waits = waits.map(|wait| wait.text.clone());
-        let waits: Vec<_> = waits.collect();
+        let waits: Vec<_> = waits.listed();
         let label = colours.waiting("still waiting:");
         let waiting = format!("{label} {}", first(&waits, SHOWN_WAITS, "; "));
         let waiting = (!waits.is_empty()).then_some(waiting);
@@ -167,7 +168,7 @@ impl Report {
             let task = line.strip_prefix(TASK_WAITS).unwrap_or(&line);
             format!("{}{task}", colours.waiting(TASK_WAITS))
         });
-        lines.chain(nothing).chain(waiting).chain(pending).collect()
+        lines.chain(nothing).chain(waiting).chain(pending).listed()
     }
 
     /// Returns the lines of the tasks that wait for something else than a call of a channel, if the
@@ -177,9 +178,9 @@ impl Report {
         let tasks = account.pending.iter().take(SHOWN_TASKS);
         let mut lines: Vec<_> = tasks
             .map(|task| format!("{TASK_WAITS} {}", task.text))
-            .collect();
+            .listed();
         let more = account.pending.len().saturating_sub(SHOWN_TASKS);
-        lines.extend((more > 0).then(|| format!("{TASK_WAITS} and {more} more")));
+        lines.push_all((more > 0).then(|| format!("{TASK_WAITS} and {more} more")));
         lines
     }
 
@@ -191,7 +192,7 @@ impl Report {
         let root = self.0.root.as_deref();
         let told = self.told();
         told.map(|(level, fact)| workflow.command(level, fact, root))
-            .collect()
+            .listed()
     }
 }
 
@@ -215,7 +216,7 @@ fn push_fact(
         lines.push(arrow(location));
         if let Some(source) = sources.and_then(|sources| sources.of(location)) {
             let label = format!("{} {}", source.carets, fact.label(step));
-            lines.extend([
+            lines.push_all([
                 source.line,
                 source.below + &colours.label(level, nth, &label),
             ]);
@@ -223,7 +224,7 @@ fn push_fact(
         }
     }
     let others = fact.text_without(&shown).into_iter().skip(1);
-    lines.extend(others.map(|line| match line.strip_prefix("  lost:") {
+    lines.push_all(others.map(|line| match line.strip_prefix("  lost:") {
         Some(lost) => format!("  {}{lost}", colours.lost("lost:")),
         None => match line.strip_prefix("  late:") {
             Some(late) => format!("  {}{late}", colours.lost("late:")),

@@ -66,7 +66,7 @@ impl From<&Location<'_>> for SourceLocation {
 
 /// A call that had begun to wait and had not ended. Actor, channel and handle are those of the
 /// journal.
-#[derive(Clone, Debug, PartialEq, Eq)]
+#[derive(Clone, Debug, Default, PartialEq, Eq)]
 pub(crate) struct WaitingCall {
     pub(crate) actor: u64,
     pub(crate) channel: u64,
@@ -228,62 +228,28 @@ impl Sidecar {
     }
 
     fn push_handles(&self, out: &mut String) {
-        if !self.handles.is_empty() {
-            push_member(out, "handles", |out| {
-                push_object(out, &self.handles, push_texts)
-            });
-        }
-        if !self.locations.is_empty() {
-            push_member(out, "locations", |out| {
-                push_list(out, &self.locations, push_location)
-            });
-        }
-        if !self.made.is_empty() {
-            push_member(out, "made", |out| push_indexes(out, &self.made));
-        }
+        push_map(out, "handles", &self.handles, push_texts);
+        push_items(out, "locations", &self.locations, push_location);
+        push_map(out, "made", &self.made, push_indexes);
     }
 
     fn push_drops(&self, out: &mut String) {
-        if !self.dropped_at.is_empty() {
-            push_member(out, "dropped_at", |out| push_indexes(out, &self.dropped_at));
-        }
-        if !self.dropped_in.is_empty() {
-            push_member(out, "dropped_in", |out| {
-                push_object(out, &self.dropped_in, push_texts)
-            });
-        }
+        push_map(out, "dropped_at", &self.dropped_at, push_indexes);
+        push_map(out, "dropped_in", &self.dropped_in, push_texts);
     }
 
     fn push_calls(&self, out: &mut String) {
-        if !self.calls.is_empty() {
-            push_member(out, "calls", |out| {
-                push_object(out, &self.calls, |out, calls| {
-                    push_list(out, calls, push_optional)
-                });
-            });
-        }
-        if !self.callers.is_empty() {
-            push_member(out, "callers", |out| push_indexes(out, &self.callers));
-        }
-        if !self.tasks.is_empty() {
-            push_member(out, "tasks", |out| {
-                push_object(out, &self.tasks, push_number)
-            });
-        }
-        if !self.waiting.is_empty() {
-            push_member(out, "waiting", |out| {
-                push_list(out, &self.waiting, push_waiting)
-            });
-        }
-        if !self.waited_at_failure.is_empty() {
-            push_member(out, "waited_at_failure", |out| {
-                push_list(out, &self.waited_at_failure, push_waiting)
-            });
-        }
-        if !self.dropped_waits.is_empty() {
-            push_member(out, "dropped_waits", |out| {
-                push_list(out, &self.dropped_waits, push_waiting)
-            });
+        push_map(out, "calls", &self.calls, |out, calls| {
+            push_list(out, calls, push_optional)
+        });
+        push_map(out, "callers", &self.callers, push_indexes);
+        push_map(out, "tasks", &self.tasks, push_number);
+        for (key, waits) in [
+            ("waiting", &self.waiting),
+            ("waited_at_failure", &self.waited_at_failure),
+            ("dropped_waits", &self.dropped_waits),
+        ] {
+            push_items(out, key, waits, push_waiting);
         }
     }
 }
@@ -292,6 +258,39 @@ impl Sidecar {
 fn push_member(out: &mut String, key: &str, push: impl FnOnce(&mut String)) {
     let _ = write!(out, ",\n  \"{key}\": ");
     push(out);
+}
+
+/// Appends a member, if there is something.
+fn push_some<V>(out: &mut String, key: &str, item: Option<&V>, push: impl FnOnce(&mut String, &V)) {
+    if let Some(item) = item {
+        push_member(out, key, |out| push(out, item));
+    }
+}
+
+/// Appends a member that is a list, unless it is empty.
+fn push_items<V>(out: &mut String, key: &str, items: &[V], push: impl Fn(&mut String, &V)) {
+    if !items.is_empty() {
+        push_member(out, key, |out| push_list(out, items, push));
+    }
+}
+
+/// Appends a member that is an object, unless it is empty.
+fn push_map<V>(
+    out: &mut String,
+    key: &str,
+    items: &NumberMap<u64, V>,
+    push: impl Fn(&mut String, &V),
+) {
+    if !items.is_empty() {
+        push_member(out, key, |out| push_object(out, items, push));
+    }
+}
+
+/// Appends a member that is `true`, if it is so.
+fn push_flag(out: &mut String, key: &str, is_so: bool) {
+    if is_so {
+        push_member(out, key, |out| out.push_str("true"));
+    }
 }
 
 /// Appends a document of several lines, which are moved to the right.
@@ -366,10 +365,8 @@ fn push_waiting(out: &mut String, wait: &WaitingCall) {
     out.push('}');
 }
 
-fn push_indexes(out: &mut String, indexes: &NumberMap<u64, NumberMap<u64, usize>>) {
-    push_object(out, indexes, |out, indexes| {
-        push_object(out, indexes, push_number)
-    });
+fn push_indexes(out: &mut String, indexes: &NumberMap<u64, usize>) {
+    push_object(out, indexes, push_number);
 }
 
 type TextsByNumber = NumberMap<u64, String>;
@@ -453,16 +450,10 @@ mod tests {
     #[test]
     fn names_fit_their_journal() {
         let waiting = [0, 2, 6, 9].map(|since| WaitingCall {
-            actor: 0,
-            channel: 0,
             handle: 1,
             call: "recv".into(),
             since,
-            location: None,
-            held_by: None,
-            woken: None,
-            until: None,
-            waited: None,
+            ..WaitingCall::default()
         });
         let mut names = Sidecar {
             calls: [
@@ -503,30 +494,23 @@ mod tests {
             waiting: vec![
                 WaitingCall {
                     actor: 3,
-                    channel: 0,
                     handle: 1,
                     call: "recv".into(),
                     since: 12,
                     location: Some(1),
-                    held_by: None,
                     woken: Some(true),
-                    until: None,
-                    waited: None,
+                    ..WaitingCall::default()
                 },
                 WaitingCall {
-                    actor: 0,
                     channel: 1,
                     handle: 0,
                     call: "send".into(),
                     since: 0,
-                    location: None,
                     held_by: Some(HeldBy {
                         actor: Some(3),
                         location: None,
                     }),
-                    woken: None,
-                    until: None,
-                    waited: None,
+                    ..WaitingCall::default()
                 },
             ],
             dropped_waits: vec![WaitingCall {

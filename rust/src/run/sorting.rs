@@ -1,6 +1,7 @@
 //! Sorting by one function for all types of items. rustc compiles a sort of std's again for each
 //! type and each order.
 
+use crate::run::listed::IntoList;
 use std::cmp::Ordering;
 
 /// Sorts a list by this order. Items that are equal in it stay in theirs.
@@ -16,7 +17,7 @@ pub(crate) fn sort_by_key<T, K: Ord>(items: &mut [T], key: impl Fn(&T) -> K) {
 
 /// Returns the places of `count` items, in the order of these.
 fn sorted_places(count: usize, order: &dyn Fn(usize, usize) -> Ordering) -> Vec<usize> {
-    let mut places: Vec<_> = (0..count).collect();
+    let mut places: Vec<_> = (0..count).listed();
     places.sort_by(|one, other| order(*one, *other));
     places
 }

@@ -18,8 +18,10 @@ mod plan;
 mod rest;
 mod state;
 mod stop;
-#[cfg(test)]
+// WebAssembly has no threads.
+#[cfg(all(test, not(target_family = "wasm")))]
 mod tests;
+mod waiters;
 
 pub(crate) use gate::Gate;
 pub(crate) use opening::{gate_of_recorder, hold_polls, open};

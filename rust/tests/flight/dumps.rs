@@ -4,18 +4,11 @@ use super::support::named::member;
 use super::support::temporary;
 use super::windows::{lead, times, trigger, windows};
 use std::collections::BTreeSet;
-use std::path::{Path, PathBuf};
+use std::path::Path;
 use std::time::Duration;
 use std::{fs, panic, thread};
 use yovanelum::debugger::Walk;
 use yovanelum::{Recorder, broadcast, watch};
-
-/// A folder that isn't there.
-fn folder(name: &str) -> PathBuf {
-    let folder = temporary::path(name);
-    let _ = fs::remove_dir_all(&folder);
-    folder
-}
 
 /// Waits until `dumps` dumps were written or have failed.
 fn wait_for(recorder: &Recorder, dumps: u64) {
@@ -32,7 +25,12 @@ fn dumps_in(folder: &Path) -> Vec<(String, String)> {
     let mut journals: Vec<_> = files
         .filter(|path| path.extension().is_some_and(|it| it == "journal"))
         .collect();
-    journals.sort();
+    // Of one millisecond, the tenth of a process is behind its ninth.
+    journals.sort_by_key(|path| {
+        let name = path.file_stem().unwrap().to_string_lossy();
+        let (begun, number) = name.rsplit_once('-').unwrap();
+        (begun.to_string(), number.parse::<u64>().unwrap())
+    });
     let read = |path: &Path| fs::read_to_string(path).unwrap();
     journals
         .iter()
@@ -54,7 +52,7 @@ fn lag(tx: &broadcast::Sender<u64>, rx: &mut broadcast::Receiver<u64>, lost: u64
 
 #[test]
 fn a_lag_calls_for_a_dump_if_it_is_great_enough() {
-    let folder = folder("flight-lag");
+    let folder = temporary::fresh("flight-lag");
     let recorder = Recorder::flight(10);
     recorder
         .dump_to(&folder)
@@ -91,7 +89,7 @@ fn a_lag_calls_for_a_dump_if_it_is_great_enough() {
 
 #[test]
 fn the_close_of_a_channel_with_that_name_calls_for_a_dump() {
-    let folder = folder("flight-close");
+    let folder = temporary::fresh("flight-close");
     let recorder = Recorder::flight(10);
     recorder.dump_to(&folder).when_closed("config");
     let _entered = recorder.enter();
@@ -116,7 +114,7 @@ fn the_close_of_a_channel_with_that_name_calls_for_a_dump() {
 
 #[test]
 fn the_close_of_each_of_several_names_calls_for_a_dump_and_one_is_kept_at_least() {
-    let folder = folder("flight-closes");
+    let folder = temporary::fresh("flight-closes");
     let recorder = Recorder::flight(10);
     let dumps = recorder.dump_to(&folder).at_most_every(Duration::ZERO);
     dumps.keep(0).when_closed("config").when_closed("level");
@@ -144,7 +142,7 @@ fn has_dump_of(recorder: &Recorder, folder: &Path, count: u64, channel: &str) ->
 
 #[test]
 fn dumps_are_not_too_near_and_not_too_many() {
-    let folder = folder("flight-many");
+    let folder = temporary::fresh("flight-many");
     let recorder = Recorder::flight(10);
     recorder.dump_to(&folder).when_lag(1).keep(2);
     let _entered = recorder.enter();
@@ -173,7 +171,7 @@ fn dumps_are_not_too_near_and_not_too_many() {
 
 #[test]
 fn dumps_that_are_asked_for_at_once_are_all_written_with_the_calls_until_then() {
-    let folder = folder("flight-at-once");
+    let folder = temporary::fresh("flight-at-once");
     let recorder = Recorder::flight(100);
     recorder.dump_to(&folder);
     let _entered = recorder.enter();
@@ -200,7 +198,7 @@ fn dumps_that_are_asked_for_at_once_are_all_written_with_the_calls_until_then() 
 
 #[test]
 fn new_dumps_stay_where_the_clock_was_set_back() {
-    let folder = folder("flight-clock");
+    let folder = temporary::fresh("flight-clock");
     fs::create_dir_all(&folder).unwrap();
     for number in 1..4 {
         for ending in ["journal", "names"] {
@@ -225,7 +223,7 @@ fn new_dumps_stay_where_the_clock_was_set_back() {
 
 #[test]
 fn a_dump_that_cannot_be_written_is_counted_and_the_service_goes_on() {
-    let folder = folder("flight-no-folder");
+    let folder = temporary::fresh("flight-no-folder");
     fs::write(&folder, "a file is in its place").unwrap();
     let recorder = Recorder::flight(10);
     recorder.dump_to(&folder).when_lag(1);
@@ -243,7 +241,7 @@ fn a_dump_that_cannot_be_written_is_counted_and_the_service_goes_on() {
 #[test]
 fn a_recorder_without_channels_has_no_dump() {
     let recorder = Recorder::flight(10);
-    recorder.dump_to(folder("flight-nothing"));
+    recorder.dump_to(temporary::fresh("flight-nothing"));
     let error = recorder.dump("a try").wait().unwrap_err();
     assert_eq!(error.to_string(), "no channel is recorded");
 }
@@ -284,7 +282,7 @@ fn a_receiver_that_lags_far_and_is_not_asked_has_its_real_lag_in_the_names() {
 
 #[test]
 fn the_busiest_channels_have_fewer_calls_in_a_dump_of_many() {
-    let folder = folder("flight-share");
+    let folder = temporary::fresh("flight-share");
     let recorder = Recorder::flight(100_000);
     recorder.dump_to(&folder);
     let _entered = recorder.enter();
@@ -306,7 +304,7 @@ fn the_busiest_channels_have_fewer_calls_in_a_dump_of_many() {
 
 #[test]
 fn a_panic_in_the_closure_of_a_lag_goes_on_and_the_dump_is_written() {
-    let folder = folder("flight-closure");
+    let folder = temporary::fresh("flight-closure");
     let recorder = Recorder::flight(10);
     recorder.dump_to(&folder).when_lag(1);
     recorder.on_lag(|lag| panic!("{lag}"));

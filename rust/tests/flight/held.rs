@@ -48,8 +48,7 @@ fn calls_of_dump(recorder: &Recorder, folder: &Path, made: u64) -> u64 {
 
 /// Returns a recorder of the last calls that writes into a folder of this name.
 fn recorder(name: &str) -> (Recorder, std::path::PathBuf) {
-    let folder = temporary::path(name);
-    let _ = fs::remove_dir_all(&folder);
+    let folder = temporary::fresh(name);
     let recorder = Recorder::flight(ASKED as usize);
     recorder.dump_to(&folder);
     (recorder, folder)

@@ -13,8 +13,7 @@ use std::time::Duration;
 
 #[test]
 fn each_of_many_connections_has_its_name_in_the_last_dump() {
-    let folder = temporary::path("flight-night");
-    let _ = fs::remove_dir_all(&folder);
+    let folder = temporary::fresh("flight-night");
     let night = example::night(1_000, Duration::ZERO, &folder).unwrap();
     assert_eq!(night.dumps.failed(), 0);
     let journal = fs::read_to_string(&night.last).unwrap();

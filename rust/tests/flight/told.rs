@@ -29,8 +29,7 @@ pub fn why(journal: &Path, more: &[&str]) -> String {
 #[test]
 #[cfg_attr(target_family = "wasm", ignore = "WebAssembly has no threads")]
 fn a_lag_of_the_night_is_told_with_what_is_known() {
-    let folder = temporary::path("flight-told");
-    let _ = fs::remove_dir_all(&folder);
+    let folder = temporary::fresh("flight-told");
     let recorder = Recorder::flight(10);
     let _entered = recorder.enter();
     recorder.dump_to(&folder);
@@ -115,8 +114,7 @@ fn note_time() -> (broadcast::Sender<()>, broadcast::Receiver<()>) {
 #[test]
 #[cfg_attr(target_family = "wasm", ignore = "WebAssembly has no threads")]
 fn a_loss_is_told_with_how_long_before_it_the_last_receive_was() {
-    let folder = temporary::path("flight-idle");
-    let _ = fs::remove_dir_all(&folder);
+    let folder = temporary::fresh("flight-idle");
     let recorder = Recorder::flight(100);
     let _entered = recorder.enter();
     recorder.dump_to(&folder);
@@ -149,8 +147,7 @@ fn a_loss_is_told_with_how_long_before_it_the_last_receive_was() {
 #[test]
 #[cfg_attr(target_family = "wasm", ignore = "WebAssembly has no threads")]
 fn who_overwrote_is_named_though_there_were_many_tasks() {
-    let folder = temporary::path("flight-many-tasks");
-    let _ = fs::remove_dir_all(&folder);
+    let folder = temporary::fresh("flight-many-tasks");
     let recorder = Recorder::flight(1_000);
     let _entered = recorder.enter();
     recorder.dump_to(&folder);

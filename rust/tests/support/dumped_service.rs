@@ -44,14 +44,3 @@ impl Service {
         assert!(journal.ends_with(&format!(" = value {}\nend\n", self.value)));
     }
 }
-
-/// Returns the names of the files in a folder, in order.
-pub fn files_in(folder: &Path) -> Vec<String> {
-    let files = fs::read_dir(folder).into_iter().flatten();
-    let name = |file: std::io::Result<fs::DirEntry>| file.unwrap().file_name();
-    let mut names: Vec<_> = files
-        .map(|file| name(file).into_string().unwrap())
-        .collect();
-    names.sort();
-    names
-}

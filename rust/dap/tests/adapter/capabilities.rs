@@ -1,10 +1,8 @@
 //! Each capability that the adapter claims is used by a request that shows it.
 
-use crate::support::{Client, Folder, Lines, save_bus, this_file};
+use crate::support::{Client, Folder, Lines, TICKER, save_bus, this_file};
 use serde_json::{Value, json};
 use std::collections::BTreeMap;
-
-const TICKER: u64 = 1;
 
 /// A session at the first stop, behind the send that overwrote a value.
 struct Session {

@@ -1,19 +1,11 @@
 //! What is typed in the console and what an editor asks by itself.
 
-use crate::support::{Client, Folder, save_bus};
+use crate::support::launched;
 use serde_json::{Value, json};
-
-fn launched() -> (Folder, Client) {
-    let folder = Folder::new();
-    let (journal, _) = save_bus(&folder, "bus");
-    let mut client = Client::new(false);
-    client.launch(json!({"journal": journal}));
-    (folder, client)
-}
 
 #[test]
 fn only_what_the_user_typed_is_shown_as_an_error() {
-    let (_folder, mut client) = launched();
+    let (_folder, mut client, _) = launched(json!({}));
     // Each identifier that the mouse is over is asked for, most of which the run doesn't know.
     for (context, is_shown) in [
         (json!("hover"), false),
@@ -37,7 +29,7 @@ fn only_what_the_user_typed_is_shown_as_an_error() {
 
 #[test]
 fn the_state_is_one_line_of_json_where_that_is_asked() {
-    let (_folder, mut client) = launched();
+    let (_folder, mut client, _) = launched(json!({}));
     let wanted = "{\"channels\":[{\"capacity\":2,\"closed\":false,\"kind\":\"broadcast\",\"made\":2,\"queued\":2,\
         \"receivers\":[{\"handle\":1,\"lag\":1,\"position\":0,\"unread\":3}],\"senders\":[0],\"sent\":3,\"window\":[1,2]}],\
         \"len\":9,\"place\":3}";
@@ -47,7 +39,7 @@ fn the_state_is_one_line_of_json_where_that_is_asked() {
 
 #[test]
 fn quit_ends_the_session_and_blank_lines_print_nothing() {
-    let (_folder, mut client) = launched();
+    let (_folder, mut client, _) = launched(json!({}));
     for text in ["", "  ", "# a comment", "#"] {
         assert_eq!(client.console(text), "");
     }
@@ -65,7 +57,7 @@ fn quit_ends_the_session_and_blank_lines_print_nothing() {
 
 #[test]
 fn data_that_the_run_has_not_are_not_watched() {
-    let (_folder, mut client) = launched();
+    let (_folder, mut client, _) = launched(json!({}));
     for (id, said) in [
         (
             "closed 1",

@@ -1,11 +1,8 @@
 //! Journals, names and sources that aren't as they should be, and launches that are refused.
 
-use crate::support::{Client, Folder, save_bus, this_file};
+use crate::support::{Client, Folder, TICKER, save_bus, this_file};
 use serde_json::{Value, json};
 use std::fs;
-
-/// The thread of the bus that makes the first call.
-const TICKER: u64 = 1;
 
 /// Launches what can't be opened, and returns why.
 fn refused(arguments: Value) -> String {

@@ -1,12 +1,8 @@
 //! Whole sessions: from the launch to the cause of a loss and back, and breakpoints of each kind.
 
-use crate::support::{Client, Folder, save_bus, this_file};
+use crate::support::{AUDITOR, Client, Folder, TICKER, launched, save_bus, this_file};
 use serde_json::{Value, json};
 use std::fs;
-
-/// The threads of the bus: the ticker makes the first call.
-const TICKER: u64 = 1;
-const AUDITOR: u64 = 2;
 
 fn names(list: &Value) -> Vec<&str> {
     let items = list.as_array().unwrap().iter();
@@ -117,10 +113,7 @@ fn client_line(journal: &std::path::Path, place: usize) -> String {
 
 #[test]
 fn variables_are_those_of_the_frame_that_is_looked_at() {
-    let folder = Folder::new();
-    let (journal, lines) = save_bus(&folder, "bus");
-    let mut client = Client::new(false);
-    client.launch(json!({"journal": journal}));
+    let (_folder, mut client, lines) = launched(json!({}));
     let frames = client.frames(TICKER);
     let scopes = client.ask("scopes", json!({"frameId": frames[0]["id"]}));
     assert_eq!(
@@ -172,10 +165,7 @@ fn variables_are_those_of_the_frame_that_is_looked_at() {
 
 #[test]
 fn breakpoints_of_each_kind_stop_in_both_directions() {
-    let folder = Folder::new();
-    let (journal, lines) = save_bus(&folder, "bus");
-    let mut client = Client::new(false);
-    client.launch(json!({"journal": journal, "stopAt": "start"}));
+    let (_folder, mut client, lines) = launched(json!({"stopAt": "start"}));
     let source = json!({"path": this_file()});
     // A line without calls moves to the next that has some.
     let set = client.ask(
@@ -263,10 +253,7 @@ fn breakpoints_of_each_kind_stop_in_both_directions() {
 
 #[test]
 fn log_points_print_in_both_directions() {
-    let folder = Folder::new();
-    let (journal, lines) = save_bus(&folder, "bus");
-    let mut client = Client::new(false);
-    client.launch(json!({"journal": journal, "stopAt": "start"}));
+    let (_folder, mut client, lines) = launched(json!({"stopAt": "start"}));
     client.ask(
         "setBreakpoints",
         json!({"source": {"path": this_file()}, "breakpoints": [
@@ -295,10 +282,7 @@ fn log_points_print_in_both_directions() {
 
 #[test]
 fn the_console_has_the_words_of_ttd_with_names() {
-    let folder = Folder::new();
-    let (journal, lines) = save_bus(&folder, "bus");
-    let mut client = Client::new(false);
-    client.launch(json!({"journal": journal}));
+    let (_folder, mut client, lines) = launched(json!({}));
     assert_eq!(
         client.console("rback lagging auditor"),
         "no hit, place 3 of 9"

@@ -1,23 +1,9 @@
 //! Where a continue stops, what it prints on the way, and what of an earlier stop is answered
 //! there.
 
-use crate::support::{Client, Folder, Lines, save_bus, this_file};
+use crate::support::{AUDITOR, Client, Folder, TICKER, launched, this_file};
 use serde_json::{Value, json};
 use yovanelum::{Recorder, block_on, broadcast, named};
-
-/// The threads of the bus: the ticker makes the first call.
-const TICKER: u64 = 1;
-const AUDITOR: u64 = 2;
-
-/// Launches the bus, whose calls 1 to 3 are sends, 4 and 9 drops, and 5 to 8 receives, of which the
-/// first is told that it lagged.
-fn launched(stop_at: &str) -> (Folder, Client, Lines) {
-    let folder = Folder::new();
-    let (journal, lines) = save_bus(&folder, "bus");
-    let mut client = Client::new(false);
-    client.launch(json!({"journal": journal, "stopAt": stop_at}));
-    (folder, client, lines)
-}
 
 /// Sets the breakpoints of the bus's sources, and returns their numbers.
 fn set(client: &mut Client, breakpoints: Value) -> Vec<u64> {
@@ -48,7 +34,7 @@ fn printed(client: &mut Client, command: &str) -> String {
 
 #[test]
 fn log_points_print_up_to_the_stop_and_no_further() {
-    let (_folder, mut client, lines) = launched("start");
+    let (_folder, mut client, lines) = launched(json!({"stopAt": "start"}));
     set(
         &mut client,
         json!([
@@ -68,7 +54,7 @@ fn log_points_print_up_to_the_stop_and_no_further() {
 
 #[test]
 fn a_single_thread_passes_what_others_hit() {
-    let (_folder, mut client, _lines) = launched("start");
+    let (_folder, mut client, _lines) = launched(json!({"stopAt": "start"}));
     let drops = json!({"breakpoints": [{"name": "drop"}]});
     client.ask("setFunctionBreakpoints", drops);
     let single = |thread: u64| json!({"threadId": thread, "singleThread": true});
@@ -144,7 +130,7 @@ fn a_channel_without_a_name_is_called_by_its_place_as_in_the_report() {
 
 #[test]
 fn a_step_of_an_instruction_goes_to_each_call() {
-    let (_folder, mut client, _lines) = launched("start");
+    let (_folder, mut client, _lines) = launched(json!({"stopAt": "start"}));
     let one = json!({"threadId": TICKER, "granularity": "instruction"});
     for place in (1..=9).chain([9]) {
         client.go("next", one.clone());
@@ -183,7 +169,7 @@ fn of_many_calls_at_a_line_the_nearest_are_targets() {
 
 #[test]
 fn a_condition_of_two_parts_holds_where_both_hold() {
-    let (_folder, mut client, _lines) = launched("end");
+    let (_folder, mut client, _lines) = launched(json!({"stopAt": "end"}));
     let mut value = |text: &str| {
         let given = json!({"expression": text, "context": "watch"});
         client.ask("evaluate", given)["result"].clone()
@@ -195,7 +181,7 @@ fn a_condition_of_two_parts_holds_where_both_hold() {
 
 #[test]
 fn a_word_is_completed_up_to_the_cursor() {
-    let (_folder, mut client, _lines) = launched("end");
+    let (_folder, mut client, _lines) = launched(json!({"stopAt": "end"}));
     let given = json!({"text": "rback laggx", "column": 11});
     let targets = client.ask("completions", given)["targets"].clone();
     assert_eq!(targets, json!([{"label": "lagging", "length": 4}]));
@@ -203,7 +189,7 @@ fn a_word_is_completed_up_to_the_cursor() {
 
 #[test]
 fn what_is_left_to_receive_is_what_was_not_received() {
-    let (_folder, mut client, _lines) = launched("start");
+    let (_folder, mut client, _lines) = launched(json!({"stopAt": "start"}));
     // Call 5 is told that a value was lost, and the calls 6 and 7 receive the other two.
     for (place, left) in [(5, &["[0]", "[1]"][..]), (6, &["[0]"]), (7, &[])] {
         client.go("goto", json!({"threadId": AUDITOR, "targetId": place}));
@@ -234,7 +220,7 @@ fn what_is_left_to_receive_is_what_was_not_received() {
 
 #[test]
 fn frames_and_variables_are_of_one_stop() {
-    let (_folder, mut client, _lines) = launched("cause");
+    let (_folder, mut client, _lines) = launched(json!({"stopAt": "cause"}));
     let frame = client.frames(TICKER)[0]["id"].clone();
     let scopes = client.ask("scopes", json!({"frameId": frame}));
     let group = scopes["scopes"][1]["variablesReference"].clone();
@@ -270,7 +256,7 @@ fn frames_and_variables_are_of_one_stop() {
 
 #[test]
 fn what_goes_wrong_at_a_breakpoint_is_told_as_an_exception() {
-    let (_folder, mut client, lines) = launched("start");
+    let (_folder, mut client, lines) = launched(json!({"stopAt": "start"}));
     let line = set(&mut client, json!([{"line": lines.recv}]));
     let filters = json!({"filters": ["lagged"]});
     let filter = numbers(&client.ask("setExceptionBreakpoints", filters));

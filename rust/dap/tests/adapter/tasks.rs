@@ -1,11 +1,8 @@
 //! What the task of a call's actor did, of names that are written by hand.
 
-use crate::support::{Client, Folder, save_bus};
+use crate::support::{AUDITOR, Client, Folder, TICKER, save_bus};
 use serde_json::{Value, json};
 use std::fs;
-
-const TICKER: u64 = 1;
-const AUDITOR: u64 = 2;
 
 /// Returns the stamps of a journal's entries.
 fn stamps(journal: &std::path::Path) -> Vec<u64> {

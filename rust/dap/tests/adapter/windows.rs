@@ -1,12 +1,9 @@
 //! Sessions on a window, of which the first calls lead to its beginning.
 
-use crate::support::{Client, Folder};
+use crate::support::{AUDITOR, Client, Folder, TICKER};
 use serde_json::{Value, json};
 use std::fs;
 use std::path::PathBuf;
-
-const TICKER: u64 = 1;
-const AUDITOR: u64 = 2;
 
 /// Three calls lead to the window. The auditor has lost one value there, and will be told of two.
 const JOURNAL: &str = "ttd-journal 2\nbroadcast 2\nsteps\n\

@@ -5,9 +5,10 @@ use super::origin::WITHIN;
 use super::{UNNAMED_TASK, UNNAMED_THREAD};
 use crate::channels::atomic::AtomicU64;
 use crate::channels::backend::Actor;
+use crate::run::numbered::Numbered;
 use std::cell::{Cell, RefCell};
 use std::fmt::Write;
-use std::sync::atomic::Ordering;
+use std::sync::atomic::{AtomicBool, Ordering};
 use std::sync::{Arc, OnceLock, Weak};
 use std::thread;
 
@@ -31,6 +32,12 @@ pub(super) const NOT_CACHED: CachedActor = CachedActor {
 /// thread.
 #[derive(Clone, Copy, PartialEq, Eq, Hash)]
 pub(crate) struct CallerNumber(pub(super) u64);
+
+impl Numbered for CallerNumber {
+    fn number(self) -> u64 {
+        self.0
+    }
+}
 
 impl CallerNumber {
     /// The number of no caller.
@@ -62,6 +69,9 @@ thread_local! {
 pub(super) type TaskId = fn() -> Option<u64>;
 
 pub(super) static TASK_ID: OnceLock<TaskId> = OnceLock::new();
+
+// Whether it is set. Each call asks this, and a number is read faster than that of a `OnceLock`.
+pub(super) static ARE_TASKS_TOLD: AtomicBool = AtomicBool::new(false);
 
 /// Sets the function that returns the number of the task which the current thread runs, or `None`
 /// if it runs none.
@@ -101,6 +111,7 @@ pub(super) static TASK_ID: OnceLock<TaskId> = OnceLock::new();
 /// ```
 pub fn set_task_id(current: fn() -> Option<u64>) {
     let _ = TASK_ID.set(current);
+    ARE_TASKS_TOLD.store(true, Ordering::Release);
 }
 
 /// The number that the runtime gives the task that this thread runs, if it tells its tasks apart.
@@ -110,10 +121,10 @@ pub(crate) fn current_task() -> Option<u64> {
 
 /// Returns the current actor for the recorder with this number. Unless it is cached, `find` looks
 /// it up, given the current task.
-#[inline]
+#[inline(always)]
 pub(crate) fn current(recorder: u64, find: impl FnOnce(Option<u64>) -> Actor) -> Actor {
     match CACHED.try_with(Cell::get) {
-        Ok(cached) if cached.recorder == recorder && TASK_ID.get().is_none() => cached.actor,
+        Ok(cached) if cached.recorder == recorder && !are_tasks_told() => cached.actor,
         _ => current_by_task(recorder, find),
     }
 }
@@ -271,8 +282,9 @@ pub(crate) fn name_of_thread_alone() -> Option<String> {
 }
 
 /// Whether a runtime says which task a thread runs.
+#[inline(always)]
 pub(super) fn are_tasks_told() -> bool {
-    TASK_ID.get().is_some()
+    ARE_TASKS_TOLD.load(Ordering::Acquire)
 }
 
 /// Whether this is the name of a thread that nobody named.

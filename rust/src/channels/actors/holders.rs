@@ -1,7 +1,7 @@
 //! Who has an actor's number: threads and named futures, as long as they are alive.
 
 use super::caller::future;
-use std::collections::HashSet;
+use crate::run::numbered::NumberSet;
 use std::sync::{Arc, Weak};
 
 thread_local! {
@@ -93,7 +93,7 @@ impl Holders {
     pub(super) fn add(&mut self, holder: Holder) {
         self.finds += 1;
         if self.all.len() >= self.full_at {
-            let mut seen = HashSet::new();
+            let mut seen = NumberSet::new();
             self.all
                 .retain(|holder| holder.is_alive() && seen.insert(holder.address()));
             self.full_at = 2 * self.all.len() + 4;

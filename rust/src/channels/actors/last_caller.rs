@@ -1,6 +1,6 @@
 //! Who has sent last on a channel, and where.
 
-use super::caller::{CALLER, CallerNumber, TASK_ID, write_caller};
+use super::caller::{CALLER, CallerNumber, are_tasks_told, write_caller};
 use crate::channels::channel::CallSite;
 
 /// Who has made the last of some calls, and where. If the next one is by the same caller, its name
@@ -29,7 +29,7 @@ impl LastCaller {
     #[inline(always)]
     pub(crate) fn note(&mut self, called_at: CallSite) {
         self.called_at = called_at;
-        if CALLER.get().0 != self.number.0 || TASK_ID.get().is_some() {
+        if CALLER.get().0 != self.number.0 || are_tasks_told() {
             self.note_other();
         }
     }

@@ -6,7 +6,7 @@ use super::values::{Value, Values};
 use crate::channels::block_on::block_on;
 use crate::channels::channel::{CallSite, CoreChannel, LockedChannel, call_site};
 use crate::channels::events::Event;
-use crate::channels::handle::Kind;
+use crate::channels::handle::{Kind, Usual};
 use crate::channels::of_version::only_if_tokio_has;
 use crate::channels::recorder::{Handle, RecordedHandle, TextOf};
 use crate::channels::wait::{Method, Pending, WaitFor};
@@ -224,7 +224,10 @@ impl<T> Receiver<T> {
         let values = self.handle.channel.values.borrow_mut(&mut channel.state);
         let value = values.receive(number);
         channel.unlock_after(has_wait, self.handle.slot);
-        value.cloned()
+        match value {
+            Value::Own(value) => value.clone(),
+            Value::Shared(value) => value.with(T::clone),
+        }
     }
 
     /// As [`clone_received`](Receiver::clone_received), of a large value.
@@ -387,7 +390,28 @@ impl<T: Clone> Receiver<T> {
     /// ```
     #[track_caller]
     pub fn try_recv(&mut self) -> Result<T, TryRecvError> {
-        let mut channel = self.handle.lock(Operation::TryRecv, call_site());
+        let called_at = call_site();
+        if cfg!(debug_assertions) {
+            return self.try_recv_any(called_at);
+        }
+        match self.handle.usual() {
+            Usual::Unrecorded(access) => {
+                self.try_recv_from(self.handle.lock_with(access, called_at))
+            }
+            Usual::Recorded(access) => self.try_recv_from(self.handle.lock_with(access, called_at)),
+            Usual::Neither => self.try_recv_any(called_at),
+        }
+    }
+
+    /// Receives a value, whatever the channel has.
+    #[cfg_attr(debug_assertions, inline(always))]
+    #[cfg_attr(not(debug_assertions), inline(never))]
+    fn try_recv_any(&self, called_at: CallSite) -> Result<T, TryRecvError> {
+        self.try_recv_from(self.handle.lock(Operation::TryRecv, called_at))
+    }
+
+    #[inline(always)]
+    fn try_recv_from(&self, mut channel: LockedChannel<'_>) -> Result<T, TryRecvError> {
         let reply = channel.call(CoreChannel::broadcast_try_recv);
         let Reply::Value(number) = reply else {
             if let Reply::Lagged(lost) = reply {

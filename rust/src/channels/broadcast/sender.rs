@@ -1,10 +1,10 @@
 //! The sending half of a broadcast channel.
 
 use super::error::SendError;
-use super::values::Values;
+use super::values::{Value, Values};
 use super::{BroadcastHandle, Receiver, WeakSender, open};
-use crate::channels::channel::{CoreChannel, LockedChannel, call_site};
-use crate::channels::handle::Kind;
+use crate::channels::channel::{CallSite, CoreChannel, LockedChannel, call_site};
+use crate::channels::handle::{Kind, Usual};
 use crate::channels::of_version::only_if_tokio_has;
 use crate::channels::recorder::{Handle, RecordedHandle, TextOf};
 use crate::channels::wait::{Method, WaitFor};
@@ -103,27 +103,60 @@ impl<T> Sender<T> {
     /// ```
     #[track_caller]
     pub fn send(&self, value: T) -> Result<usize, SendError<T>> {
-        if self.handle.channel.has_text_of() {
-            self.send_with_text(value)
-        } else {
-            self.send_with(value, None)
+        let called_at = call_site();
+        #[cfg(not(debug_assertions))]
+        {
+            if Values::<T>::ARE_LARGE {
+                self.send_with_text(value, called_at)
+            } else {
+                self.send_optimized(value, called_at)
+            }
+        }
+        // A function that passes the value on would have it on its stack.
+        #[cfg(debug_assertions)]
+        {
+            let channel = &self.handle.channel;
+            let text = if channel.has_text_of() {
+                channel.text(&value)
+            } else {
+                None
+            };
+            self.send_to(self.handle.lock(Operation::Send, called_at), value, text)
         }
     }
 
-    /// Sends a value with its text. It is apart, so that what is sent without one carries nothing
-    /// of it.
+    #[cfg_attr(debug_assertions, expect(dead_code))]
+    #[inline(always)]
+    fn send_optimized(&self, value: T, called_at: CallSite) -> Result<usize, SendError<T>> {
+        let handle = &self.handle;
+        match handle.usual() {
+            Usual::Unrecorded(access) => {
+                self.send_to(handle.lock_with(access, called_at), value, None)
+            }
+            Usual::Recorded(access) if !handle.channel.has_text_of() => {
+                self.send_to(handle.lock_with(access, called_at), value, None)
+            }
+            _ => self.send_with_text(value, called_at),
+        }
+    }
+
+    /// Sends a value with its text, if it has one, once its turn in a replay has come. It is apart,
+    /// so that what is sent without carries nothing of it.
     #[cold]
-    #[track_caller]
-    fn send_with_text(&self, value: T) -> Result<usize, SendError<T>> {
+    #[inline(never)]
+    fn send_with_text(&self, value: T, called_at: CallSite) -> Result<usize, SendError<T>> {
         let text = self.handle.channel.text(&value);
-        self.send_with(value, text)
+        self.send_to(self.handle.lock(Operation::Send, called_at), value, text)
     }
 
     /// Sends a value, given its text if it has one.
     #[inline(always)]
-    #[track_caller]
-    fn send_with(&self, value: T, text: Option<String>) -> Result<usize, SendError<T>> {
-        let mut channel = self.handle.lock(Operation::Send, call_site());
+    fn send_to(
+        &self,
+        mut channel: LockedChannel<'_>,
+        value: T,
+        text: Option<String>,
+    ) -> Result<usize, SendError<T>> {
         let (number, reply) = channel.send(text, CoreChannel::broadcast_send);
         let Some(receivers) = reply.sent() else {
             return Err(SendError(value));
@@ -149,7 +182,12 @@ impl<T> Sender<T> {
     ) {
         let values = self.handle.channel.values.borrow_mut(&mut channel.state);
         let overwritten = values.push(number, value, receivers);
-        channel.unlock_drop_and_wake(overwritten, reply);
+        // Each is dropped as what it is. An enum would be stored in memory for it.
+        match overwritten {
+            None => channel.unlock_and_wake(reply),
+            Some(Value::Own(value)) => channel.unlock_drop_and_wake(value, reply),
+            Some(Value::Shared(value)) => channel.unlock_drop_and_wake(value, reply),
+        }
     }
 
     /// As [`store`](Sender::store), of a large value.

@@ -3,6 +3,7 @@
 
 use super::ChannelState;
 use crate::run::clock::{Moment, moment_among};
+use crate::run::listed::IntoList;
 
 impl ChannelState {
     /// Returns the stamp of the last send, or 0 if there was none or the channel isn't recorded.
@@ -28,7 +29,7 @@ impl ChannelState {
             last.keep_time(time);
             Some(time.wall)
         };
-        stamps.iter().map(|stamp| kept(*stamp)).collect()
+        stamps.iter().map(|stamp| kept(*stamp)).listed()
     }
 
     /// Returns when the call that waits and has begun last has begun to, with the recorder's clock

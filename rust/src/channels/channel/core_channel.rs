@@ -263,7 +263,7 @@ impl CoreChannel {
     fn call_several(
         &mut self,
         place: Place,
-        call: impl Fn(&mut Recording, u32) -> Reply,
+        call: &dyn Fn(&mut Recording, u32) -> Reply,
         fold: fn(Reply, Reply) -> Reply,
     ) -> Reply {
         let own = place.machine();
@@ -273,7 +273,7 @@ impl CoreChannel {
         let others = all.enumerate().filter(|(number, _)| *number != own);
         let others = others.filter_map(|(_, machine)| machine);
         others.fold(reply.expect_made(), |reply, machine| {
-            fold(reply, made(machine.by_sender(&call)))
+            fold(reply, made(machine.by_sender(call)))
         })
     }
 
@@ -387,7 +387,7 @@ macro_rules! calls_of_all_machines {
                     Some(place) if self.further.is_empty() => place.handle(),
                     Some(place) => {
                         let call = move |core: &mut Recording, sender| core.$method(caller, sender, $($arg),*);
-                        return self.call_several(place, call, $fold);
+                        return self.call_several(place, &call, $fold);
                     }
                 };
                 self.first.core.$method(caller, number, $($arg),*)

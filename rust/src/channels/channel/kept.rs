@@ -6,6 +6,7 @@ use super::{CallSite, ChannelState, WaitNow};
 use crate::channels::backend::{Kept, MOST_CHUNK};
 use crate::core::source::rw_law::NoMemory;
 use crate::run::clock::Times;
+use crate::run::listed::IntoList;
 use crate::run::numbered::NumberMap;
 use crate::run::sidecar::Maker;
 
@@ -134,7 +135,7 @@ impl ChannelState {
         let waits = self.who_waits();
         let waits = waits.map(|call| (kept_number(call.wait.handle), call));
         let noted = NotedChannel {
-            waits: waits.collect(),
+            waits: waits.listed(),
             calls: noted,
             name: self.seldom().name.clone(),
             made_by: self.made_by.clone(),

@@ -1,6 +1,7 @@
 //! What is known of a channel at a moment of a run that is explored.
 
 use super::ChannelState;
+use crate::run::listed::IntoList;
 
 /// A channel as it is when one is chosen.
 pub(crate) struct Known {
@@ -22,7 +23,7 @@ impl ChannelState {
     pub(crate) fn known(&mut self, number: u32) -> Known {
         let capacity = self.core.capacity();
         let capacity = capacity.map(|capacity| capacity.next_power_of_two() as u64);
-        let handles: Vec<u32> = self.receivers.iter().map(|it| it.number).collect();
+        let handles: Vec<u32> = self.receivers.iter().map(|it| it.number).listed();
         let receivers = handles.into_iter().map(|handle| {
             let unread = self.unread(handle);
             KnownReceiver {
@@ -31,7 +32,7 @@ impl ChannelState {
                 lags: capacity.is_some_and(|capacity| unread > capacity),
             }
         });
-        let receivers = receivers.collect();
+        let receivers = receivers.listed();
         Known {
             number,
             name: self.seldom().name.clone(),

@@ -10,6 +10,7 @@ use crate::channels::backend::Actor;
 use crate::core::lists::reserved;
 use crate::core::source::rw_law::NoMemory;
 use crate::run::clock::{Clock, Moment, Times};
+use crate::run::listed::{IntoList, PushAll};
 use crate::run::sorting::sort_by_key;
 use std::collections::VecDeque;
 use std::mem;
@@ -146,7 +147,7 @@ impl LastCalls {
     /// Begins after `before` calls, with these handles. The core keeps later calls by the numbers
     /// that they have.
     pub(super) fn begin_again(&mut self, before: u64, handles: MadeHandles) {
-        let numbers: Vec<u32> = (0..handles.len()).collect();
+        let numbers: Vec<u32> = (0..handles.len()).listed();
         (self.before, self.handles) = (before, handles);
         self.renumber(&numbers);
     }
@@ -266,7 +267,7 @@ impl LastCalls {
     #[cold]
     #[inline(never)]
     pub(super) fn note_time(&mut self, stamp: u64) {
-        self.newer.moments.extend(self.clock.moment(stamp));
+        self.newer.moments.push_all(self.clock.moment(stamp));
     }
 
     /// The clocks of the recorder.
@@ -278,7 +279,7 @@ impl LastCalls {
     pub(super) fn times_with(&self, others: impl Iterator<Item = Moment>) -> Vec<Moment> {
         let chunks = [&self.older, &self.newer];
         let noted = chunks.into_iter().flat_map(|chunk| &chunk.moments);
-        let mut times: Vec<_> = noted.copied().chain(others).collect();
+        let mut times: Vec<_> = noted.copied().chain(others).listed();
         sort_by_key(&mut times, |time| (time.stamp, time.since_start));
         times
     }
@@ -341,13 +342,13 @@ impl LastCalls {
     /// Notes that the last call waited.
     pub(super) fn note_waited(&mut self) {
         let last = self.last();
-        self.newer.waited.extend(last);
+        self.newer.waited.push_all(last);
     }
 
     /// Notes that the last call was a drop by the drop of a named future.
     pub(super) fn note_cancelled(&mut self) {
         let last = self.last();
-        self.newer.cancelled.extend(last);
+        self.newer.cancelled.push_all(last);
     }
 
     /// Notes the text of a value, which was sent unless there was no receiver.
@@ -379,8 +380,8 @@ impl LastCalls {
         let texts = texts.map(|it| (it.number, it.text.clone()));
         let count = self.retained.len() + self.older.texts.len() + self.newer.texts.len();
         let mut all_texts = reserved(count)?;
-        all_texts.extend(self.retained.iter().cloned());
-        all_texts.extend(texts);
+        all_texts.push_all(self.retained.iter().cloned());
+        all_texts.push_all(texts);
         Ok(LastCallsCopy {
             count: self.count(),
             sites: joined(chunks.map(|chunk| &*chunk.sites))?,
@@ -407,7 +408,7 @@ impl LastCalls {
         let mut sharing = reserved(count)?;
         for (first, chunk) in chunks {
             let calls = chunk.sharing.calls();
-            sharing.extend(calls.map(|(before, name)| (first + u64::from(before), name.clone())));
+            sharing.push_all(calls.map(|(before, name)| (first + u64::from(before), name.clone())));
         }
         Ok(sharing)
     }

@@ -9,7 +9,7 @@ pub(crate) type CallSite = Option<&'static Location<'static>>;
 
 /// Returns where the function that calls this was called, if it is marked with `#[track_caller]`.
 #[track_caller]
-#[inline]
+#[inline(always)]
 pub(crate) fn call_site() -> CallSite {
     Some(Location::caller())
 }
@@ -35,7 +35,7 @@ pub(crate) struct CallSites {
 }
 
 impl CallSites {
-    #[inline]
+    #[inline(always)]
     pub(crate) fn push(&mut self, site: CallSite) {
         if self.last.len() == self.last.capacity() {
             self.grow();

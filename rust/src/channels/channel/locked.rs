@@ -27,13 +27,21 @@ use std::sync::Arc;
 pub(crate) struct LockedChannel<'a> {
     pub(crate) state: ChannelGuard<'a, ChannelState>,
     channel: &'a RecordedChannel,
-    // Of the next call, in a replay.
-    permit: Option<Permit<'a>>,
+    access: Access<'a>,
     actor: Actor,
     handle: u32,
     called_at: CallSite,
-    // The stamp of the last call, if it is recorded.
+    // The stamp of the last call, or 0 if it isn't recorded.
     stamp: u64,
+}
+
+/// By what a call is made, before it locks its channel. Of a channel without a recorder that is
+/// nothing, and whoever asks for that once has calls that ask for it no more.
+#[derive(Default)]
+pub(crate) struct Access<'a> {
+    pub(crate) recorder: Option<&'a Shared>,
+    // Of the next call, in a replay.
+    pub(crate) permit: Option<Permit<'a>>,
 }
 
 impl RecordedChannel {
@@ -47,11 +55,27 @@ impl RecordedChannel {
         handle: u32,
         called_at: CallSite,
     ) -> LockedChannel<'a> {
-        let actor = self.recorder.actor(called_at);
+        let recorder = self.recorder.0.as_deref();
+        self.lock_with(Access { recorder, permit }, handle, called_at)
+    }
+
+    /// Locks the channel, as [`lock`](RecordedChannel::lock) does, by what the call has.
+    #[cfg_attr(debug_assertions, inline(never))]
+    #[cfg_attr(not(debug_assertions), inline(always))]
+    pub(crate) fn lock_with<'a>(
+        &'a self,
+        access: Access<'a>,
+        handle: u32,
+        called_at: CallSite,
+    ) -> LockedChannel<'a> {
+        let actor = match access.recorder {
+            Some(recorder) => recorder.actor(called_at),
+            None => Actor::FIRST,
+        };
         LockedChannel {
             state: self.state.lock(),
             channel: self,
-            permit,
+            access,
             actor,
             handle,
             called_at,
@@ -109,6 +133,20 @@ impl RecordedChannel {
 fn tell_made(permit: Option<Permit<'_>>, is_recorded: bool, text: Option<&str>) {
     if let Some(permit) = permit.filter(|_| is_recorded) {
         permit.made(text);
+    }
+}
+
+/// Makes a call of a channel without a recorder.
+#[inline(always)]
+fn call_unrecorded(
+    state: &mut ChannelState,
+    call: impl Fn(&mut CoreChannel, Caller) -> Reply,
+) -> Reply {
+    let reply = call(&mut state.core, Caller::UNRECORDED);
+    if reply.leaves_entry() {
+        reply
+    } else {
+        reply.expect_made()
     }
 }
 
@@ -177,39 +215,39 @@ impl<'a> LockedChannel<'a> {
     ) -> Reply {
         let state = &mut *self.state;
         let (channel, by) = (self.channel, (self.actor, self.called_at));
-        let clock = match &channel.recorder.0 {
-            None => 0,
-            Some(recorder) if !state.keeps_all => {
-                if state.adds_plain(by.0, by.1) {
-                    recorder.tick()
-                } else {
-                    channel.tick_apart(recorder, state, by)
-                }
-            }
-            Some(recorder) if recorder.is_past_limit() => {
-                channel.tick_past_limit(recorder, state, by)
-            }
-            Some(recorder) => {
-                // It is added before the call, so that nothing of the reply has to be stored
-                // meanwhile.
-                state.locations.of_calls.push(self.called_at);
-                state.actors |= self.actor.bit();
-                recorder.tick()
-            }
+        let Some(recorder) = self.access.recorder else {
+            return call_unrecorded(state, call);
         };
-        self.stamp = clock + 1;
+        let clock;
+        if state.keeps_all && !recorder.is_past_limit() {
+            // It is added before the call, so that nothing of the reply has to be stored meanwhile.
+            state.locations.of_calls.push(self.called_at);
+            state.actors |= self.actor.bit();
+            clock = recorder.tick();
+            self.stamp = clock + 1;
+        } else if state.adds_plain(by.0, by.1) {
+            clock = recorder.tick();
+            self.stamp = clock + 1;
+        } else {
+            clock = channel.tick_rarely(recorder, state, by);
+            self.stamp = state.stamp_after(clock);
+        }
         let caller = Caller {
             actor: self.actor,
             clock,
         };
         let reply = call(&mut state.core, caller);
         if !reply.leaves_entry() {
-            let permit = self.permit.take();
-            return channel.end_unrecorded(state, permit, caller, reply, call);
+            let permit = self.access.permit.take();
+            let reply = channel.end_unrecorded(state, permit, caller, reply, call);
+            self.stamp = state.stamp_after(clock);
+            return reply;
         }
-        if self.permit.is_some() {
-            tell_made(self.permit.take(), state.is_recorded, text.as_deref());
-        }
+        let Some(_permit) = &self.access.permit else {
+            return reply;
+        };
+        let permit = self.access.permit.take();
+        tell_made(permit, state.is_recorded, text.as_deref());
         reply
     }
 
@@ -225,8 +263,7 @@ impl<'a> LockedChannel<'a> {
     #[cfg_attr(not(debug_assertions), inline(always))]
     pub(crate) fn note_receive(&mut self, slot: Slot) -> bool {
         let state = &mut *self.state;
-        let stamp = if state.is_recorded { self.stamp } else { 0 };
-        state.receivers.receive(slot, self.called_at, stamp)
+        state.receivers.receive(slot, self.called_at, self.stamp)
     }
 
     /// Notes that the receiver in this slot was told that it has lost values. Returns the event, to
@@ -242,8 +279,7 @@ impl<'a> LockedChannel<'a> {
 
     /// Returns the greatest stamp that a recorded call can have so far.
     pub(crate) fn clock(&self) -> u64 {
-        let recorder = self.channel.recorder.0.as_ref();
-        recorder.map_or(0, |recorder| recorder.last())
+        self.access.recorder.map_or(0, |recorder| recorder.last())
     }
 
     /// Unlocks the channel.
@@ -270,15 +306,15 @@ impl<'a> LockedChannel<'a> {
         }
     }
 
-    /// Unlocks the channel without a call, and returns the permit of the call.
-    pub(crate) fn into_permit(self) -> Option<Permit<'a>> {
-        self.permit
+    /// Unlocks the channel without a call, and returns by what the call is made.
+    pub(crate) fn into_access(self) -> Access<'a> {
+        self.access
     }
 
     /// Says that the call has to wait, if it was its turn in a replay.
     #[inline]
     pub(crate) fn would_wait(&mut self) {
-        if let Some(permit) = self.permit.take() {
+        if let Some(permit) = self.access.permit.take() {
             permit.would_wait();
         }
     }
@@ -308,7 +344,7 @@ impl<'a> LockedChannel<'a> {
     /// Whether the channel belongs to a recorder.
     #[inline]
     pub(crate) fn has_recorder(&self) -> bool {
-        self.channel.recorder.0.is_some()
+        self.access.recorder.is_some()
     }
 
     /// Notes this call as the look with this number. The numbers of looks that were noted before

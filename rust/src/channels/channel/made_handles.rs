@@ -4,6 +4,7 @@
 use super::CallSite;
 use crate::core::lists::reserved;
 use crate::core::source::rw_law::NoMemory;
+use crate::run::listed::PushAll;
 use std::mem;
 
 /// The handles of a table. Those that the table forgets are forgotten here too.
@@ -84,10 +85,10 @@ impl MadeHandles {
     fn be_renumbered(&mut self, before: &MadeHandles, alive: &[u32]) {
         self.survivors.clear();
         self.survivors
-            .extend(alive.iter().map(|number| before.nth(*number)));
+            .push_all(alive.iter().map(|number| before.nth(*number)));
         self.sites.clear();
         self.sites
-            .extend(alive.iter().map(|number| before.made_at(*number)));
+            .push_all(alive.iter().map(|number| before.made_at(*number)));
         self.next = before.nth(before.len());
     }
 }

@@ -7,7 +7,8 @@ use super::last_calls::LastCalls;
 use super::made_handles::MadeHandles;
 use crate::channels::recorder::Shared;
 use crate::run::clock::Times;
-use std::collections::HashMap;
+use crate::run::listed::IntoList;
+use crate::run::numbered::NumberMap;
 
 /// What is known of a channel whose last calls aren't kept for a time.
 pub(crate) struct PausedFlight {
@@ -78,13 +79,13 @@ impl ChannelState {
         times: Times,
     ) -> LastCalls {
         let receivers = self.receivers.iter();
-        let receivers: HashMap<_, _> = receivers.map(|it| (it.number, it.made_at)).collect();
+        let receivers: NumberMap<_, _> = receivers.map(|it| (it.number, it.made_at)).collect();
         let handles = numbers.iter().map(|number| {
             let nth = self.core.nth(*number);
             let made_at = receivers.get(number).copied().flatten();
             (nth, made_at.or_else(|| paused.handles.made_at_nth(nth)))
         });
-        let handles = MadeHandles::of(handles.collect(), created);
+        let handles = MadeHandles::of(handles.listed(), created);
         let mut last = LastCalls::new(paused.size, self.retained_capacity(), times);
         last.begin(true, self.sent_count());
         last.begin_again(paused.calls, handles);

@@ -6,15 +6,36 @@ use crate::channels::recorder::Shared;
 use crate::channels::turns::Permit;
 use crate::run::reply::Reply;
 
+impl ChannelState {
+    /// Returns the stamp of a call that the clock has this number for, or 0 if it isn't recorded.
+    pub(super) fn stamp_after(&self, clock: u64) -> u64 {
+        if self.is_recorded { clock + 1 } else { 0 }
+    }
+}
+
 impl RecordedChannel {
-    /// Stores by whom and where the next call is made, and returns the clock's number for it, where
-    /// the last calls alone are kept, or none. A call that isn't recorded leaves the clock as it
-    /// is, which the threads of all channels of the recorder write.
+    /// Returns the clock's number for the next call, where it isn't as most are.
     // What is cold is laid out apart, and so leaves the calls that are recorded as fast as they
     // are.
     #[cold]
     #[inline(never)]
-    pub(super) fn tick_apart(
+    pub(super) fn tick_rarely(
+        &self,
+        recorder: &Shared,
+        state: &mut ChannelState,
+        caller: (Actor, CallSite),
+    ) -> u64 {
+        if state.keeps_all {
+            self.tick_past_limit(recorder, state, caller)
+        } else {
+            self.tick_apart(recorder, state, caller)
+        }
+    }
+
+    /// Stores by whom and where the next call is made, and returns the clock's number for it, where
+    /// the last calls alone are kept, or none. A call that isn't recorded leaves the clock as it
+    /// is, which the threads of all channels of the recorder write.
+    fn tick_apart(
         &self,
         recorder: &Shared,
         state: &mut ChannelState,
@@ -41,9 +62,7 @@ impl RecordedChannel {
 
     /// As [`tick_apart`](RecordedChannel::tick_apart), once a channel of the recorder has recorded
     /// as many calls as a journal takes. This one then keeps its last calls alone, or none.
-    #[cold]
-    #[inline(never)]
-    pub(super) fn tick_past_limit(
+    fn tick_past_limit(
         &self,
         recorder: &Shared,
         state: &mut ChannelState,

@@ -1,7 +1,7 @@
 //! Who has made those calls of a chunk whose actor has a number that several share.
 
 use crate::channels::actors::{self, CallerNumber};
-use std::collections::HashMap;
+use crate::run::numbered::NumberMap;
 use std::sync::Arc;
 
 /// The calls of a chunk that were made by the number that several share, and by whom each was.
@@ -11,7 +11,7 @@ pub(super) struct SharingCallers {
     calls: Vec<(u32, u32)>,
     names: Vec<Arc<str>>,
     // The indexes of the names, by the numbers that callers have for their lives.
-    indexes: HashMap<CallerNumber, u32>,
+    indexes: NumberMap<CallerNumber, u32>,
 }
 
 impl SharingCallers {
@@ -20,7 +20,7 @@ impl SharingCallers {
     #[inline(never)]
     pub(super) fn add(&mut self, before: usize) {
         let names = &mut self.names;
-        let index = self.indexes.entry(actors::own_number()).or_insert_with(|| {
+        let index = self.indexes.get_or_insert_with(actors::own_number(), || {
             names.push(actors::name_of_sharing());
             names.len() as u32 - 1
         });
@@ -53,6 +53,6 @@ impl SharingCallers {
     pub(super) fn clear(&mut self) {
         self.calls.clear();
         self.names.clear();
-        self.indexes.clear();
+        self.indexes = NumberMap::new();
     }
 }

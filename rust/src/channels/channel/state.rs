@@ -19,6 +19,7 @@ use crate::core::shim::alloc::Global;
 use crate::core::source::rw_law::NoMemory;
 use crate::core::source::rw_waiting::Waiting;
 use crate::run::clock::Times;
+use crate::run::listed::IntoList;
 use crate::run::numbered::NumberMap;
 use crate::run::sidecar::Maker;
 use std::alloc::{Layout, handle_alloc_error};
@@ -218,7 +219,7 @@ impl ChannelState {
             .receivers
             .iter()
             .map(|receiver| receiver.number)
-            .collect();
+            .listed();
         let unread = numbers.into_iter().map(|number| self.unread(number));
         unread.max().unwrap_or_default()
     }

@@ -4,6 +4,7 @@
 
 use super::receivers::Slot;
 use crate::channels::wait::{Wait, WaitTicket};
+use crate::run::listed::IntoList;
 use crate::run::sorting::sort_by_key;
 use std::mem;
 
@@ -183,7 +184,7 @@ impl ListedCalls {
     /// one. Whether it waits isn't known here: see `ChannelState::who_waits`.
     pub(super) fn in_order(&self) -> impl Iterator<Item = (Option<WaitTicket>, &Wait)> {
         let calls = self.places.iter().filter(|call| call.number != FREE);
-        let mut calls: Vec<_> = calls.collect();
+        let mut calls: Vec<_> = calls.listed();
         sort_by_key(&mut calls, |call| call.number);
         calls.into_iter().map(|call| (call.ticket(), &call.wait))
     }

@@ -6,8 +6,8 @@ use super::current::{Stack, expect_any, of_this_thread, replace_of_this_thread};
 use crate::channels::channel::CallSite;
 use crate::channels::lock::lock;
 use crate::channels::reentrant::thread_number;
+use crate::run::by_text::TextMap;
 use std::any::Any;
-use std::collections::BTreeMap;
 use std::mem;
 use std::panic::Location;
 use std::sync::{Arc, Mutex, OnceLock, Weak};
@@ -46,7 +46,7 @@ static RUNNING: Mutex<Vec<Weak<Stack>>> = Mutex::new(Vec::new());
 
 /// Tests whose own thread isn't known yet, though another thread of theirs has created a channel:
 /// what their threads have, by the path of the test.
-static EXPECTED: Mutex<BTreeMap<String, Arc<Stack>>> = Mutex::new(BTreeMap::new());
+static EXPECTED: Mutex<TextMap<Arc<Stack>>> = Mutex::new(TextMap::new());
 
 /// A thread that runs a test.
 pub(crate) struct TestThread {
@@ -225,8 +225,8 @@ fn of_test_at(for_tests: &dyn ForTests, at: &Location<'_>) -> Option<Arc<Stack>>
         (None, _) => {
             let path = path.filter(|path| for_tests.is_test(path))?;
             let mut expected = lock(&EXPECTED);
-            let begun = expected.entry(path.to_string());
-            let stack = begun.or_insert_with(|| Arc::new(Stack::of_test(TestThread::new(path))));
+            let begin = || Arc::new(Stack::of_test(TestThread::new(path)));
+            let stack = expected.get_or_insert_with(path, begin);
             Some(stack.clone())
         }
     }

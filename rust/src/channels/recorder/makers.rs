@@ -1,6 +1,6 @@
 //! Who has made channels, and how many.
 
-use std::collections::{HashMap, HashSet};
+use crate::run::by_text::{TextMap, TextSet};
 
 /// How many makers there are before those are forgotten whose channels have left the run.
 const MANY: usize = 256;
@@ -13,7 +13,9 @@ const RECENT: u64 = 128;
 #[derive(Default)]
 pub(super) struct Makers {
     made: u64,
-    counts: HashMap<Option<String>, Count>,
+    counts: TextMap<Count>,
+    // That of callers without a name.
+    nameless: Option<Count>,
 }
 
 struct Count {
@@ -27,12 +29,20 @@ impl Makers {
     pub(super) fn count(&mut self, name: &Option<String>) -> u64 {
         self.made += 1;
         let last = self.made;
-        if let Some(maker) = self.counts.get_mut(name) {
+        let known = match name {
+            Some(name) => self.counts.get_mut(name),
+            None => self.nameless.as_mut(),
+        };
+        if let Some(maker) = known {
             maker.last = last;
             maker.count += 1;
             return maker.count - 1;
         }
-        self.counts.insert(name.clone(), Count { count: 1, last });
+        let first = Count { count: 1, last };
+        match name {
+            Some(name) => drop(self.counts.insert(name, first)),
+            None => self.nameless = Some(first),
+        }
         0
     }
 
@@ -46,8 +56,8 @@ impl Makers {
         self.counts.len() >= MANY
     }
 
-    /// Forgets the makers that aren't among these, whose channels are in the run.
-    pub(super) fn forget_others(&mut self, in_run: &HashSet<Option<String>>) {
+    /// Forgets the makers whose names are not among these, which have channels in the run.
+    pub(super) fn forget_others(&mut self, in_run: &TextSet) {
         let recent = self.made.saturating_sub(RECENT);
         self.counts
             .retain(|name, maker| maker.last > recent || in_run.contains(name));
@@ -62,12 +72,13 @@ mod tests {
     #[test]
     fn a_maker_with_a_channel_in_the_run_goes_on_counting_and_others_are_forgotten() {
         let mut makers = Makers::default();
-        let stays = Some("stays".to_string());
+        let (stays, mut in_run) = (Some("stays".to_string()), TextSet::new());
+        in_run.insert("stays");
         assert_eq!((makers.count(&stays), makers.count(&stays)), (0, 1));
         for request in 0..100 * runs() {
             assert_eq!(makers.count(&Some(format!("request {request}"))), 0);
             if makers.are_many() {
-                makers.forget_others(&[stays.clone()].into());
+                makers.forget_others(&in_run);
             }
             assert!(makers.counts.len() <= MANY);
         }

@@ -13,7 +13,9 @@ use crate::channels::lock::{lock, try_lock_for};
 use crate::channels::reentrant::thread_number;
 use crate::channels::turns::{self, Turns};
 use crate::channels::whereabouts::WatchedTest;
+use crate::run::by_text::TextSet;
 use crate::run::clock::{FLIGHT_START, Times};
+use crate::run::listed::IntoList;
 use crate::run::sidecar::{Maker, Unrecorded};
 use std::sync::atomic::{AtomicBool, AtomicUsize, Ordering};
 use std::sync::{Arc, Mutex, OnceLock, Weak};
@@ -165,11 +167,12 @@ impl Shared {
         }
         if self.turns.is_none() && lock(&self.makers).are_many() {
             let channels = lock(&self.channels).clone();
-            let in_run = channels.iter().filter_map(|channel| {
+            let mut in_run = TextSet::new();
+            for channel in &channels {
                 let state = lock(channel);
-                state.made_by.as_ref().map(|maker| maker.name.clone())
-            });
-            let in_run = in_run.collect();
+                let maker = state.made_by.as_ref().and_then(|maker| maker.name.as_ref());
+                in_run.extend(maker);
+            }
             lock(&self.makers).forget_others(&in_run);
         }
         let nth = lock(&self.makers).count(&name);
@@ -193,7 +196,7 @@ impl Shared {
         let named = (0..).zip(&*channels);
         named
             .filter_map(|(number, channel)| Some((number, lock(channel).seldom().name.clone()?)))
-            .collect()
+            .listed()
     }
 
     /// Returns the channels as they are, without those that are locked.
@@ -203,7 +206,7 @@ impl Shared {
         let known = (0..).zip(&channels).filter_map(|(number, channel)| {
             Some(try_lock_for(channel, Duration::ZERO)?.known(number))
         });
-        known.collect()
+        known.listed()
     }
 
     /// Returns the functions that the recorder's handles hold.
@@ -231,7 +234,7 @@ impl Shared {
     }
 
     /// Returns the clock's number for a call whose channel is locked.
-    #[inline]
+    #[inline(always)]
     pub(crate) fn tick(&self) -> u64 {
         let CallCounter(clock) = &self.clock;
         if self.has_several.load(Ordering::Relaxed) {
@@ -244,7 +247,7 @@ impl Shared {
     }
 
     /// Whether a channel has recorded as many calls as a journal takes.
-    #[inline]
+    #[inline(always)]
     pub(crate) fn is_past_limit(&self) -> bool {
         self.end.load(Ordering::SeqCst) != NEVER
     }
@@ -345,6 +348,12 @@ impl Shared {
     #[inline]
     pub(crate) fn is_quiet(&self) -> bool {
         self.is_quiet.load(Ordering::Relaxed)
+    }
+
+    /// Returns the actor of a call that is made here in the source.
+    #[inline(always)]
+    pub(crate) fn actor(&self, called_at: CallSite) -> Actor {
+        actors::current(self.id, move |task| self.find_actor(task, called_at))
     }
 
     /// Ends the recording of all channels. Calls with a stamp above this are not recorded.
@@ -477,9 +486,7 @@ impl RecordedBy {
     #[inline]
     pub(crate) fn actor(&self, called_at: CallSite) -> Actor {
         match self.0.as_deref() {
-            Some(recorder) => actors::current(recorder.id, move |task| {
-                recorder.find_actor(task, called_at)
-            }),
+            Some(recorder) => recorder.actor(called_at),
             None => Actor::FIRST,
         }
     }

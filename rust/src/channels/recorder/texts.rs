@@ -8,8 +8,8 @@ use crate::channels::erased;
 use crate::channels::events::Hooks;
 use crate::channels::lock::lock;
 use crate::channels::turns::{TestEnd, Turns};
+use crate::run::numbered::NumberMap;
 use std::any::Any;
-use std::collections::HashMap;
 use std::sync::atomic::{AtomicUsize, Ordering};
 use std::sync::{Arc, Mutex, OnceLock, Weak};
 
@@ -30,7 +30,7 @@ pub(crate) struct Texts {
 #[derive(Default)]
 struct Functions {
     next: u64,
-    by_number: HashMap<u64, Arc<dyn Any + Send + Sync>>,
+    by_number: NumberMap<u64, Arc<dyn Any + Send + Sync>>,
 }
 
 /// What a channel knows of the function for the texts of its values. If this is dropped, the

@@ -5,6 +5,7 @@ use super::Shared;
 use crate::channels::channel::{ChannelState, WaitNow};
 use crate::channels::channel_lock::ChannelLock;
 use crate::channels::lock::try_lock_for;
+use crate::run::listed::PushAll;
 use std::sync::{Arc, Weak};
 use std::time::Duration;
 
@@ -36,7 +37,7 @@ impl Shared {
             let Some(state) = try_lock_for(channel, PATIENCE) else {
                 continue;
             };
-            waits.extend(state.who_waits().map(|then| WaitThen {
+            waits.push_all(state.who_waits().map(|then| WaitThen {
                 channel: Arc::downgrade(channel),
                 then,
             }));

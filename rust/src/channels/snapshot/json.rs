@@ -3,6 +3,7 @@
 use super::{ChannelSnapshot, NumberedCall, ReceiverSnapshot, Snapshot, Waits};
 use crate::channels::channel::CallSite;
 use crate::run::clock::iso;
+use crate::run::listed::IntoList;
 use crate::run::sidecar::Json;
 
 impl Snapshot {
@@ -82,7 +83,7 @@ impl ChannelSnapshot {
             ("sent_time", time(self.sent_last)),
             (
                 "receivers",
-                Json::List(self.receivers.iter().map(receiver).collect()),
+                Json::List(self.receivers.iter().map(receiver).listed()),
             ),
         ])
     }

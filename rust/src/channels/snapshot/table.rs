@@ -3,6 +3,7 @@
 use super::{ChannelSnapshot, NumberedCall, ReceiverSnapshot, Snapshot, Waits};
 use crate::channels::channel::CallSite;
 use crate::run::clock::utc;
+use crate::run::listed::IntoList;
 use std::fmt;
 
 /// The heads of the columns. Those of numbers are on the right.
@@ -57,7 +58,7 @@ impl fmt::Display for ChannelSnapshot {
         let rows: Vec<_> = [HEADS.map(str::to_string)]
             .into_iter()
             .chain(self.receivers.iter().map(row))
-            .collect();
+            .listed();
         fmt_rows(&rows, f)
     }
 }

@@ -2,8 +2,8 @@
 
 use super::error::RecvError;
 use super::{Ref, WatchHandle, attempt_changed};
-use crate::channels::channel::{CallSite, CoreChannel, call_site};
-use crate::channels::handle::Kind;
+use crate::channels::channel::{Access, CallSite, CoreChannel, call_site};
+use crate::channels::handle::{Kind, Usual};
 use crate::channels::of_version::only_if_tokio_has;
 use crate::channels::recorder::{Handle, RecordedHandle, TextOf};
 use crate::channels::wait::{Method, Pending, WaitFor};
@@ -84,17 +84,35 @@ impl<T> Receiver<T> {
 
     /// [`borrow_and_update`](Receiver::borrow_and_update), which is called here in the source.
     pub(crate) fn borrow_and_update_at(&mut self, called_at: CallSite) -> Ref<'_, T> {
-        let permit = self.handle.pass(Operation::Update, called_at);
+        if cfg!(debug_assertions) {
+            return self.update_any(called_at);
+        }
+        match self.handle.usual() {
+            Usual::Unrecorded(access) => self.update_by(access, called_at),
+            Usual::Recorded(access) => self.update_by(access, called_at),
+            Usual::Neither => self.update_any(called_at),
+        }
+    }
+
+    /// Looks at the value and marks it as seen, whatever the channel has.
+    #[cfg_attr(debug_assertions, inline(always))]
+    #[cfg_attr(not(debug_assertions), inline(never))]
+    fn update_any(&self, called_at: CallSite) -> Ref<'_, T> {
+        self.update_by(self.handle.pass(Operation::Update, called_at), called_at)
+    }
+
+    #[inline(always)]
+    fn update_by<'a>(&'a self, access: Access<'a>, called_at: CallSite) -> Ref<'a, T> {
         let method = Method {
             name: "borrow_and_update",
             called_at,
         };
-        self.handle.borrow_by(permit, &method, |channel| {
-            let has_changed = !channel.has_seen();
-            channel.call(CoreChannel::watch_update);
-            channel.note_receive(self.handle.slot);
-            has_changed
-        })
+        let inner = self.handle.read_value(&method);
+        let mut channel = self.handle.lock_with(access, called_at);
+        let has_changed = !channel.has_seen();
+        channel.call(CoreChannel::watch_update);
+        channel.note_receive(self.handle.slot);
+        self.handle.looked(channel, inner, has_changed)
     }
 
     /// Returns `true` if there is a value that this receiver has not seen.
@@ -124,12 +142,12 @@ impl<T> Receiver<T> {
     pub fn has_changed(&self) -> Result<bool, RecvError> {
         let (word, called_at) = (Operation::HasChanged, call_site());
         let recorded = self.handle.recorded();
-        let permit = if recorded.is_quiet(self.handle.number, word, called_at) {
-            None
+        let access = if recorded.is_quiet(self.handle.number, word, called_at) {
+            self.handle.unordered()
         } else {
             self.handle.pass(word, called_at)
         };
-        let mut channel = self.handle.lock_with(permit, called_at);
+        let mut channel = self.handle.lock_with(access, called_at);
         if !self.handle.recorded().recorder.is_quiet() {
             return channel.call(CoreChannel::watch_has_changed).has_changed();
         }
@@ -300,8 +318,8 @@ impl<T> Receiver<T> {
             loop {
                 {
                     let (word, called_at) = (Operation::WaitFor, method.called_at);
-                    let permit = self.handle.turn(word, called_at).await;
-                    let value = self.handle.borrow_by(permit, &method, |channel| {
+                    let access = self.handle.turn(word, called_at).await;
+                    let value = self.handle.borrow_by(access, &method, |channel| {
                         let has_changed = !channel.has_seen();
                         channel.call_that_waits(CoreChannel::watch_update);
                         channel.note_receive(self.handle.slot);

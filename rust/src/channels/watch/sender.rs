@@ -2,11 +2,10 @@
 
 use super::error::SendError;
 use super::{Receiver, Ref, WatchHandle, channel};
-use crate::channels::channel::{CallSite, CoreChannel, LockedChannel, call_site};
-use crate::channels::handle::Kind;
+use crate::channels::channel::{Access, CallSite, CoreChannel, LockedChannel, call_site};
+use crate::channels::handle::{Kind, Usual};
 use crate::channels::of_version::only_if_tokio_has;
 use crate::channels::recorder::{Handle, RecordedHandle, TextOf};
-use crate::channels::turns::Permit;
 use crate::channels::wait::{Method, WaitFor};
 use crate::core::source::rw_values::store_sent;
 use crate::run::operation::Operation;
@@ -94,11 +93,7 @@ impl<T> Sender<T> {
     /// ```
     #[track_caller]
     pub fn send(&self, mut value: T) -> Result<(), SendError<T>> {
-        let is_sent = if self.handle.channel.has_text_of() {
-            self.send_with_text(&mut value, call_site())
-        } else {
-            self.send_with(&mut value, None, call_site())
-        };
+        let is_sent = self.send_in_place(&mut value, call_site());
         // Of a value that was sent, the one before is in its place, and is dropped here.
         if is_sent {
             Ok(())
@@ -107,24 +102,56 @@ impl<T> Sender<T> {
         }
     }
 
+    #[inline(always)]
+    fn send_in_place(&self, value: &mut T, called_at: CallSite) -> bool {
+        if cfg!(debug_assertions) {
+            return self.send_any(value, called_at);
+        }
+        match self.handle.usual() {
+            Usual::Unrecorded(access) => self.send_with(value, None, access, called_at),
+            Usual::Recorded(access) if !self.handle.channel.has_text_of() => {
+                self.send_with(value, None, access, called_at)
+            }
+            _ => self.send_any(value, called_at),
+        }
+    }
+
+    /// Sends a value, whatever the channel has.
+    #[cfg_attr(debug_assertions, inline(always))]
+    #[cfg_attr(not(debug_assertions), inline(never))]
+    fn send_any(&self, value: &mut T, called_at: CallSite) -> bool {
+        if self.handle.channel.has_text_of() {
+            self.send_with_text(value, called_at)
+        } else {
+            let access = self.handle.pass(Operation::Send, called_at);
+            self.send_with(value, None, access, called_at)
+        }
+    }
+
     /// Sends a value with its text. It is apart, so that what is sent without one carries nothing
     /// of it.
     #[cold]
     fn send_with_text(&self, value: &mut T, called_at: CallSite) -> bool {
         let text = self.handle.channel.text(value);
-        self.send_with(value, text, called_at)
+        let access = self.handle.pass(Operation::Send, called_at);
+        self.send_with(value, text, access, called_at)
     }
 
     /// Sends a value, given its text if it has one. It swaps the value with the one before, so
     /// that a large one isn't moved from one part of the call to the next. Returns whether there
     /// was a receiver, and else has changed nothing.
     #[inline(always)]
-    fn send_with(&self, value: &mut T, text: Option<String>, called_at: CallSite) -> bool {
-        let permit = self.handle.pass(Operation::Send, called_at);
+    fn send_with<'a>(
+        &'a self,
+        value: &mut T,
+        text: Option<String>,
+        access: Access<'a>,
+        called_at: CallSite,
+    ) -> bool {
         let Some(mut stored) = self.handle.channel.values.try_write() else {
-            return self.send_to_locked(value, text, permit, called_at);
+            return self.send_to_locked(value, text, access, called_at);
         };
-        let mut channel = self.handle.lock_with(permit, called_at);
+        let mut channel = self.handle.lock_with(access, called_at);
         let reply = send_to(&mut *stored, &mut channel, value, text);
         // A waker may look at the value, so it is unlocked before those who wait for it are woken.
         drop(stored);
@@ -139,22 +166,22 @@ impl<T> Sender<T> {
         &'a self,
         value: &mut T,
         text: Option<String>,
-        permit: Option<Permit<'a>>,
+        access: Access<'a>,
         called_at: CallSite,
     ) -> bool {
-        let mut channel = self.handle.lock_with(permit, called_at);
+        let mut channel = self.handle.lock_with(access, called_at);
         if channel.core().receivers() == 0 {
             let (_, reply) = channel.send(text, CoreChannel::watch_send);
             assert!(matches!(reply, Reply::NoReceivers(_)), "{reply:?}");
             return false;
         }
-        let permit = channel.into_permit();
+        let access = channel.into_access();
         let method = Method {
             name: "send",
             called_at,
         };
         let mut stored = self.handle.write_value(method);
-        let mut channel = self.handle.lock_with(permit, called_at);
+        let mut channel = self.handle.lock_with(access, called_at);
         let reply = send_to(&mut *stored, &mut channel, value, text);
         drop(stored);
         channel.unlock_and_wake(reply);
@@ -303,9 +330,9 @@ impl<T> Sender<T> {
         let text = self.handle.channel.text(&value);
         let method = Method::called("send_replace");
         let called_at = method.called_at;
-        let permit = self.handle.pass(Operation::SendReplace, called_at);
+        let access = self.handle.pass(Operation::SendReplace, called_at);
         let mut stored = self.handle.write_value(method);
-        let mut channel = self.handle.lock_with(permit, called_at);
+        let mut channel = self.handle.lock_with(access, called_at);
         let (_, reply) = channel.send(text, CoreChannel::watch_send_replace);
         store_sent(&mut *stored, &mut value, reply.says_stored());
         drop(stored);

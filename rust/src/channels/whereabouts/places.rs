@@ -3,6 +3,7 @@
 use super::frames::{StackWalk, address_of};
 use super::{WatchedTest, remembered};
 use crate::channels::lock::lock;
+use crate::run::numbered::Numbered;
 use std::backtrace::Backtrace;
 use std::collections::HashMap;
 use std::panic::Location;
@@ -15,6 +16,12 @@ const MOST_PLACES: usize = 4096;
 /// The number of a place.
 #[derive(Clone, Copy, Debug, PartialEq, Eq, Hash, PartialOrd, Ord)]
 pub(crate) struct PlaceNumber(u32);
+
+impl Numbered for PlaceNumber {
+    fn number(self) -> u64 {
+        self.0.into()
+    }
+}
 
 impl PlaceNumber {
     /// One that was not looked at.

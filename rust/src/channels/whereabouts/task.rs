@@ -5,6 +5,7 @@ use super::{MOST_POLLS, WatchedTest, budget, waker};
 use crate::channels::actors::number_of_caller;
 use crate::channels::lock::lock;
 use crate::channels::reentrant::thread_number;
+use crate::run::listed::IntoList;
 use std::collections::VecDeque;
 use std::sync::atomic::Ordering;
 use std::sync::{Arc, Mutex};
@@ -305,7 +306,7 @@ impl WatchedTask {
             within: self.within,
             actor: state.actor,
             is_over: state.is_over,
-            polls: state.polls.iter().cloned().collect(),
+            polls: state.polls.iter().cloned().listed(),
         }
     }
 }

@@ -111,7 +111,8 @@ mod of_system {
 
     /// The thread that exits has no thread-locals by now, and so another one ends the test.
     extern "C" fn at_exit(status: c_int, _: *mut c_void) {
-        let ending = thread::Builder::new().spawn(move || super::end(status));
+        let end: Box<dyn FnOnce() + Send> = Box::new(move || super::end(status));
+        let ending = thread::Builder::new().spawn(end);
         // A panic there has printed itself.
         let _ = ending.map(thread::JoinHandle::join);
     }

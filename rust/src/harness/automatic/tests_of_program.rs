@@ -3,7 +3,7 @@
 //! itself isn't taken for another test.
 
 use crate::harness::program::Program;
-use std::collections::HashMap;
+use crate::run::by_text::TextMap;
 use std::fs;
 use std::ops::RangeInclusive;
 use std::path::{Path, PathBuf};
@@ -30,7 +30,7 @@ struct TestFunction {
 struct TestFunctions {
     all: Vec<TestFunction>,
     /// Where those with a name are.
-    by_name: HashMap<String, Vec<usize>>,
+    by_name: TextMap<Vec<usize>>,
 }
 
 /// Whether a thread with this name runs a test whose failure is a panic or an `Err`. One that
@@ -115,9 +115,9 @@ fn tests() -> Option<&'static TestFunctions> {
 
 impl TestFunctions {
     fn of(all: Vec<TestFunction>) -> TestFunctions {
-        let mut by_name: HashMap<_, Vec<_>> = HashMap::new();
+        let mut by_name: TextMap<Vec<_>> = TextMap::new();
         for (index, test) in all.iter().enumerate() {
-            by_name.entry(test.name.clone()).or_default().push(index);
+            by_name.get_or_default(&test.name).push(index);
         }
         TestFunctions { all, by_name }
     }

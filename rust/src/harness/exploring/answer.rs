@@ -5,6 +5,7 @@ use crate::channels::recorder::Shared;
 use crate::channels::standard_error::say;
 use crate::run::debugger::named::{Entities, NamedCondition};
 use crate::run::debugger::{Walk, recorded};
+use crate::run::listed::IntoList;
 use crate::schedule::explore::{condition, is_of_session};
 use std::panic::{self, AssertUnwindSafe};
 use std::path::{Path, PathBuf};
@@ -28,7 +29,7 @@ pub(super) enum Answer {
 
 /// Returns what is said where there is nothing of the condition's name.
 pub(super) fn unknown_in_words(condition: &NamedCondition, names: &[String]) -> String {
-    let quoted: Vec<_> = names.iter().map(|name| format!("`{name}`")).collect();
+    let quoted: Vec<_> = names.iter().map(|name| format!("`{name}`")).listed();
     let sort = condition.sort.plural();
     if quoted.is_empty() {
         format!("`{condition}` names nothing: there are no {sort}")
@@ -133,7 +134,7 @@ impl Answer {
         let mut lines = text.lines();
         match lines.next()? {
             "not met" => Some(Answer::NotMet),
-            "unknown" => Some(Answer::Unknown(lines.map(str::to_string).collect())),
+            "unknown" => Some(Answer::Unknown(lines.map(str::to_string).listed())),
             line => Some(Answer::Met(line.strip_prefix("met ")?.parse().ok()?)),
         }
     }

@@ -6,9 +6,11 @@ use super::process::FailureMark;
 use super::search::{Search, Task};
 use crate::harness::program;
 use crate::run::account::visible;
+use crate::run::by_text::TextMap;
+use crate::run::listed::IntoList;
+use crate::run::numbered::NumberSet;
 use crate::run::sidecar::push_string;
 use crate::schedule::explore::Schedule;
-use std::collections::{BTreeMap, HashSet};
 use std::fmt::Write;
 use std::hash::{DefaultHasher, Hash, Hasher};
 use std::time::Duration;
@@ -30,8 +32,8 @@ pub(super) struct AskedCondition {
 #[derive(Default)]
 pub(super) struct Counts {
     pub(super) runs: u64,
-    by_strategy: BTreeMap<&'static str, u64>,
-    pub(super) orders: HashSet<u64>,
+    by_strategy: TextMap<u64>,
+    pub(super) orders: NumberSet<u64>,
     covered: CoveredPairs,
     steps: u64,
     restless: u64,
@@ -58,7 +60,7 @@ impl Counts {
 
     pub(super) fn add(&mut self, task: &Task, schedule: &Schedule) {
         self.runs += 1;
-        *self.by_strategy.entry(task.order.strategy()).or_default() += 1;
+        *self.by_strategy.get_or_default(task.order.strategy()) += 1;
         let mut order = DefaultHasher::new();
         for step in &schedule.steps {
             (&step.who, format!("{:?}", step.what)).hash(&mut order);
@@ -147,13 +149,13 @@ impl Counts {
         let others = self
             .by_strategy
             .iter()
-            .filter(|(strategy, _)| **strategy != "search");
+            .filter(|(strategy, _)| *strategy != "search");
         let others: Vec<_> = others
-            .map(|(strategy, count)| match *strategy {
+            .map(|(strategy, count)| match strategy {
                 "guided" | "random" => format!("{count} {strategy}"),
                 strategy => format!("{count} by {strategy}"),
             })
-            .collect();
+            .listed();
         let mut parts = vec![searched, others.join(", ")];
         parts.retain(|part| !part.is_empty());
         let no_run = match asked {

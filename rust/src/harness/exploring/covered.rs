@@ -6,8 +6,10 @@
 //! before it.
 
 use crate::run::account::visible;
+use crate::run::by_text::TextMap;
+use crate::run::listed::IntoList;
+use crate::run::numbered::NumberMap;
 use crate::schedule::explore::{Schedule, Step, What};
-use std::collections::HashMap;
 use std::hash::{DefaultHasher, Hash, Hasher};
 
 /// How many different steps are kept of all runs. What is known of their pairs takes 16 MiB.
@@ -17,9 +19,9 @@ const MOST_STEPS: usize = 8192;
 #[derive(Default)]
 pub(super) struct CoveredPairs {
     /// The lists of steps, by the hash of what is the same in all steps of a list.
-    by_hash: HashMap<u64, usize>,
+    by_hash: NumberMap<u64, usize>,
     lists: Vec<AlikeSteps>,
-    channels_by_hash: HashMap<u64, usize>,
+    channels_by_hash: NumberMap<u64, usize>,
     channels: Vec<ChannelSteps>,
     kept: usize,
     /// Whether there were more steps than are kept.
@@ -71,14 +73,14 @@ impl CoveredPairs {
         self.lists.iter_mut().for_each(|list| list.came = 0);
         let steps = schedule.steps.iter();
         let known = steps.filter_map(|step| self.known(step, &names));
-        let known: Vec<(usize, usize)> = known.collect();
+        let known: Vec<(usize, usize)> = known.listed();
         self.walk(known.iter(), |step| &mut step.before);
         self.walk(known.iter().rev(), |step| &mut step.after);
     }
 
     /// Returns the number of a step's channel, and that of the step there. One is left out if it is
     /// no call, or if there are too many.
-    fn known(&mut self, step: &Step, names: &HashMap<u32, u64>) -> Option<(usize, usize)> {
+    fn known(&mut self, step: &Step, names: &NumberMap<u32, u64>) -> Option<(usize, usize)> {
         let What::Call { word, channel, .. } = &step.what else {
             return None;
         };
@@ -109,7 +111,7 @@ impl CoveredPairs {
             return None;
         }
         let next = self.channels.len();
-        let channel = *self.channels_by_hash.entry(channel).or_insert(next);
+        let channel = *self.channels_by_hash.get_or_insert_with(channel, || next);
         if channel == next {
             self.channels.push(ChannelSteps::default());
         }
@@ -170,13 +172,14 @@ impl CoveredPairs {
 impl ChannelSteps {
     /// Counts the pairs of steps of different actors. Each has two steps that know of it.
     fn counts(&self) -> PairCounts {
-        let mut of_actors: HashMap<u64, StepSet> = HashMap::new();
+        let mut of_actors: NumberMap<u64, StepSet> = NumberMap::new();
         for (number, step) in self.steps.iter().enumerate() {
-            of_actors.entry(step.actor).or_default().insert(number);
+            of_actors.get_or_default(step.actor).insert(number);
         }
         let count = |how: fn(u64, u64) -> u64| {
             let steps = self.steps.iter();
-            let counts = steps.map(|step| step.count(&of_actors[&step.actor], how));
+            let counts =
+                steps.filter_map(|step| Some(step.count(of_actors.get(&step.actor)?, how)));
             counts.sum::<u64>() / 2
         };
         PairCounts {
@@ -233,11 +236,11 @@ impl StepSet {
 /// Returns a hash for each channel with a name. The number of a channel is its place in the order
 /// of creation, which differs between runs where several tasks create some. Of those with one name
 /// it has the same place more often.
-fn hashes_of_channels(schedule: &Schedule) -> HashMap<u32, u64> {
-    let mut counts: HashMap<&str, usize> = HashMap::new();
+fn hashes_of_channels(schedule: &Schedule) -> NumberMap<u32, u64> {
+    let mut counts: TextMap<usize> = TextMap::new();
     let channels = schedule.channels.iter();
     let hashes = channels.map(|(number, name)| {
-        let count = counts.entry(name).or_default();
+        let count = counts.get_or_default(name);
         *count += 1;
         (*number, hash_of(&(name, *count)))
     });
@@ -262,17 +265,14 @@ mod tests {
             let mut next = || parts.next().unwrap().to_string();
             let (who, word, channel) = (next(), next(), next());
             Step {
-                chosen: 0,
                 count: 1,
-                turn: Turn::Free,
                 what: What::Call {
                     word,
                     channel: channel.parse().unwrap(),
                     handle: 0,
                 },
                 at: Some(("tests/shop.rs".to_string(), 7)),
-                waited_for: None,
-                who: who.into(),
+                ..Step::poll_of(&who, Turn::Free)
             }
         };
         let mut schedule = Schedule::new(String::new());

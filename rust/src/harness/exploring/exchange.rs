@@ -7,10 +7,10 @@
 use super::passed::PassedRun;
 use super::process::{By, FailureMark, Ran, TIME_OF_RUN, TestProgram};
 use super::shorten::Failing;
+use crate::run::by_text::TextMap;
+use crate::run::listed::IntoList;
 use crate::schedule::explore::{Order, OrderKind, Schedule, Step};
-use std::collections::HashMap;
 use std::fs;
-use std::sync::Arc;
 use std::time::{Duration, Instant};
 
 /// How many runs the search has, and how long.
@@ -166,9 +166,9 @@ fn begun_as(first: &[Step], count: usize, then: &[Step]) -> Vec<Step> {
 
 /// Returns steps without as many first ones of each caller as there are others of it.
 fn without(steps: &[Step], made: &[Step]) -> Vec<Step> {
-    let mut left: HashMap<&Arc<str>, usize> = HashMap::new();
+    let mut left: TextMap<usize> = TextMap::new();
     for step in made {
-        *left.entry(&step.who).or_default() += 1;
+        *left.get_or_default(&step.who) += 1;
     }
     let is_left = |step: &&Step| match left.get_mut(&step.who) {
         Some(count) if *count > 0 => {
@@ -177,7 +177,7 @@ fn without(steps: &[Step], made: &[Step]) -> Vec<Step> {
         }
         _ => true,
     };
-    steps.iter().filter(is_left).cloned().collect()
+    steps.iter().filter(is_left).cloned().listed()
 }
 
 /// Returns steps in which the one at `own` is this one, and comes behind `behind` of them.
@@ -203,18 +203,10 @@ fn exchanged(failing: &[Step], passing: &[Step]) -> Option<(usize, usize)> {
 #[cfg(test)]
 mod tests {
     use super::*;
-    use crate::schedule::explore::{Turn, What};
+    use crate::schedule::explore::Turn;
 
     fn steps(who: &str) -> Vec<Step> {
-        let step = |name: char| Step {
-            chosen: 0,
-            count: 2,
-            turn: Turn::Free,
-            what: What::Poll,
-            at: None,
-            waited_for: None,
-            who: name.to_string().into(),
-        };
+        let step = |name: char| Step::poll_of(&name.to_string(), Turn::Free);
         who.chars().map(step).collect()
     }
 

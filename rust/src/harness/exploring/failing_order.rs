@@ -10,6 +10,7 @@ use super::tries::Tries;
 use crate::harness::automatic::is_under_command;
 use crate::harness::replay_line::quoted;
 use crate::run::account::visible;
+use crate::run::listed::IntoList;
 use crate::run::sidecar::push_string;
 use crate::schedule::explore::{Order, OrderKind, POINTS, has_points};
 use std::fmt::Write;
@@ -47,31 +48,23 @@ impl FailingOrder {
         FailingOrder {
             first: first.order,
             by_search: first.switches,
-            order: failing.order.clone(),
             switches: failing.schedule.switches(),
-            failure,
             met: match failing.ran.answer {
                 Some(Answer::Met(call)) => Some(call),
                 _ => None,
             },
-            by_journal: None,
-            by_schedule: Tries::default(),
-            by_order: Tries::default(),
-            journal: None,
-            schedule: None,
-            race: Race::Unknown,
-            run: Default::default(),
+            ..FailingOrder::without_schedule(&failing.order, failure)
         }
     }
 
     /// A run that was ended from outside, of which no schedule is known.
-    pub(super) fn without_schedule(order: &Order, failure: &FailureMark) -> FailingOrder {
+    pub(super) fn without_schedule(order: &Order, failure: FailureMark) -> FailingOrder {
         FailingOrder {
             first: order.clone(),
             by_search: None,
             order: order.clone(),
             switches: 0,
-            failure: failure.clone(),
+            failure,
             met: None,
             by_journal: None,
             by_schedule: Tries::default(),
@@ -178,7 +171,11 @@ impl FailingOrder {
             Some(_) => {
                 let number = search.passed[1] + 1;
                 let known = (search.passed[1] as usize + search.waiting(1)).max(number as usize);
-                write!(text, "the {} of {known} with one switch", nth(number))
+                write!(
+                    text,
+                    "the {} of {known} with one switch",
+                    visible::nth(number)
+                )
             }
             None => match self.first.kind {
                 OrderKind::Guided { .. } | OrderKind::Random(_) => {
@@ -253,7 +250,7 @@ impl FailingOrder {
         let _ = write!(json, ", \"switches\": {}", self.switches);
         if let race @ Race::Exchange(_) = &self.race {
             let told = race.in_words(self.failure.is_met());
-            let words: Vec<&str> = told.split_whitespace().skip(2).collect();
+            let words: Vec<&str> = told.split_whitespace().skip(2).listed();
             json.push_str(", \"race\": ");
             push_string(json, &words.join(" "));
         }
@@ -277,24 +274,13 @@ impl FailingOrder {
     }
 }
 
-fn nth(number: u64) -> String {
-    let ending = match (number % 10, number % 100) {
-        (_, 11..=13) => "th",
-        (1, _) => "st",
-        (2, _) => "nd",
-        (3, _) => "rd",
-        _ => "th",
-    };
-    format!("{number}{ending}")
-}
-
 #[cfg(test)]
 mod tests {
     use super::*;
 
     #[test]
     fn numbers_have_their_endings() {
-        let all = [1, 2, 3, 4, 11, 12, 13, 21, 102, 111].map(nth);
+        let all = [1, 2, 3, 4, 11, 12, 13, 21, 102, 111].map(visible::nth);
         assert_eq!(
             all.join(" "),
             "1st 2nd 3rd 4th 11th 12th 13th 21st 102nd 111th"

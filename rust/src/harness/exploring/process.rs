@@ -4,6 +4,7 @@ use super::answer::{ANSWER, Answer};
 use super::settings::RUNS;
 use crate::channels::atomic::AtomicU64;
 use crate::channels::lock::lock;
+use crate::run::listed::{IntoList, PushAll};
 use crate::schedule::explore::{
     Asked, ORDER, Order, PAUSE, PROCESSOR, RunEnd, SCHEDULE, SESSION, Schedule, Sleeper, TARGET,
     Threads,
@@ -103,11 +104,12 @@ impl TestProgram {
         let mut arguments = vec![test.to_string(), "--exact".into(), "--nocapture".into()];
         let is_ignored =
             |argument: &String| argument == "--ignored" || argument == "--include-ignored";
-        arguments.extend(env::args().filter(is_ignored));
+        arguments.push_all(env::args().filter(is_ignored));
         let running = Arc::<Mutex<Vec<Weak<Running>>>>::default();
         let watched = Arc::downgrade(&running);
         let watcher = thread::Builder::new().name("yovanelum-explore".to_string());
-        watcher.spawn(move || look_after(&watched))?;
+        let watch: Box<dyn FnOnce() + Send> = Box::new(move || look_after(&watched));
+        watcher.spawn(watch)?;
         Ok(TestProgram {
             path: env::current_exe()?,
             arguments,
@@ -258,7 +260,7 @@ fn look_after(running: &Weak<Mutex<Vec<Weak<Running>>>>) {
     while let Some(all) = running.upgrade() {
         let mut all = lock(&all);
         all.retain(|running| running.strong_count() > 0);
-        let alive: Vec<_> = all.iter().filter_map(Weak::upgrade).collect();
+        let alive: Vec<_> = all.iter().filter_map(Weak::upgrade).listed();
         drop(all);
         quiet.retain(|(id, _)| alive.iter().any(|running| running.id() == *id));
         for running in alive {

@@ -1,6 +1,7 @@
 //! The race of a failing order in words: the two steps that make the difference, and the switches.
 
 use super::exchange::Exchange;
+use crate::run::listed::IntoList;
 use crate::run::operation::Operation;
 use crate::schedule::explore::{RunEnd, Schedule, Step, Turn, What};
 use std::fmt::Write as _;
@@ -48,7 +49,7 @@ fn between_in_words(found: &Exchange, file: &mut String) -> String {
     let schedule = &found.failing;
     let first = &schedule.steps[found.first].who;
     let between = (found.first + 1..found.then).filter(|at| schedule.steps[*at].who != *first);
-    let between: Vec<usize> = between.collect();
+    let between: Vec<usize> = between.listed();
     let told = between.iter().take(CALLS_TOLD);
     let mut said: String = told
         .map(|at| format!(",\n            and {}", step_in_words(schedule, *at, file)))
@@ -149,7 +150,7 @@ pub(super) fn in_words(schedule: &Schedule) -> String {
 fn places(schedule: &Schedule, is_meant: impl Fn(&Step) -> bool) -> Vec<usize> {
     let numbered = schedule.steps.iter().enumerate();
     let meant = numbered.filter(|(_, step)| is_meant(step));
-    meant.map(|(at, _)| at).collect()
+    meant.map(|(at, _)| at).listed()
 }
 
 /// Says what the switch at this step is.
@@ -176,7 +177,7 @@ fn switch(schedule: &Schedule, at: usize) -> String {
 
 /// Says what others did.
 fn meanwhile_in_words(steps: &[Step], schedule: &Schedule, file: &mut String) -> String {
-    let calls: Vec<&Step> = steps.iter().filter(|step| is_call(step)).collect();
+    let calls: Vec<&Step> = steps.iter().filter(|step| is_call(step)).listed();
     let mut said = String::new();
     let mut who = None;
     for call in calls.iter().take(CALLS_TOLD) {
@@ -246,16 +247,13 @@ mod tests {
     fn step(who: &str, word: Option<(&str, u32)>, turn: Turn) -> Step {
         Step {
             chosen: u32::from(turn == Turn::Switch),
-            count: 2,
-            turn,
             what: word.map_or(What::Poll, |(word, _)| What::Call {
                 word: word.to_string(),
                 channel: 0,
                 handle: 0,
             }),
             at: word.map(|(_, line)| ("tests/shop.rs".to_string(), line)),
-            waited_for: None,
-            who: who.into(),
+            ..Step::poll_of(who, turn)
         }
     }
 

@@ -31,7 +31,7 @@ impl Session {
         let nothing = lock(&self.counts).nothing_in_words(&self.name, Some(&failure));
         let said = self.without_folder(&ran.said, &ran.target);
         say(&format!("{nothing}\n{}", said.trim_end()));
-        FailingOrder::without_schedule(&task.order, &failure)
+        FailingOrder::without_schedule(&task.order, failure)
     }
 
     /// Looks for the fewest switches, tries what brings the failure back, puts the files where they
@@ -44,7 +44,7 @@ impl Session {
             .clone()
             .unwrap_or_else(|| unreachable!("it has failed"));
         let Some(schedule) = ran.schedule.take() else {
-            let found = FailingOrder::without_schedule(&order, &failure);
+            let found = FailingOrder::without_schedule(&order, failure.clone());
             say(&format!(
                 "{}: {} failed: {}\n{}",
                 self.name, order, failure.0, ran.said

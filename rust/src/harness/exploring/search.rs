@@ -255,7 +255,7 @@ impl Search {
 #[cfg(test)]
 mod tests {
     use super::*;
-    use crate::schedule::explore::{Step, What};
+    use crate::schedule::explore::Step;
 
     /// The schedule of two callers with one call each behind the choice of the first one: who goes
     /// first is free, and that is all.
@@ -264,13 +264,8 @@ mod tests {
         schedule.steps = turns
             .iter()
             .map(|(count, turn)| Step {
-                chosen: 0,
                 count: *count,
-                turn: *turn,
-                what: What::Poll,
-                at: None,
-                waited_for: None,
-                who: "a".into(),
+                ..Step::poll_of("a", *turn)
             })
             .collect();
         schedule

@@ -13,7 +13,8 @@ use crate::channels::lock::lock;
 use crate::channels::standard_error::say;
 use crate::harness::files;
 use crate::harness::program::Program;
-use std::collections::{BTreeSet, HashSet};
+use crate::run::by_text::TextSet;
+use crate::run::listed::IntoList;
 use std::process::Command;
 use std::sync::atomic::{AtomicBool, Ordering};
 use std::sync::{Mutex, PoisonError, RwLock};
@@ -32,7 +33,7 @@ const WORKERS: [&str; 2] = ["tokio-runtime-worker", "tokio-rt-worker"];
 ///
 /// Panics if a failing order is found, or if the test can't be run.
 pub(super) fn explore(name: &str) {
-    static EXPLORED: Mutex<Option<HashSet<String>>> = Mutex::new(None);
+    static EXPLORED: Mutex<TextSet> = Mutex::new(TextSet::new());
     let Some(settings) = Settings::of_variables() else {
         return;
     };
@@ -43,7 +44,7 @@ pub(super) fn explore(name: &str) {
     };
     // One test at a time: each uses as many processors as it may.
     let mut explored = lock(&EXPLORED);
-    if !explored.get_or_insert_default().insert(test.clone()) {
+    if !explored.insert(&test) {
         return;
     }
     files::begin();
@@ -69,7 +70,7 @@ fn path_of_test(name: &str) -> Option<String> {
     if let Some(path) = of_thread {
         return Some(path.to_string());
     }
-    let arguments: Vec<String> = env::args().skip(1).collect();
+    let arguments: Vec<String> = env::args().skip(1).listed();
     let mut names = arguments.iter().filter(|word| !word.starts_with('-'));
     match (names.next(), names.next()) {
         (Some(path), None) if arguments.iter().any(|word| word == "--exact") => Some(path.clone()),
@@ -146,7 +147,7 @@ impl FoundRun {
 struct SeenNames {
     is_any: bool,
     is_answered: bool,
-    names: BTreeSet<String>,
+    names: TextSet,
 }
 
 impl Session {
@@ -236,7 +237,7 @@ impl Session {
             text: condition.to_string(),
             is_there,
             unknown: (!is_there).then(|| {
-                let names: Vec<String> = there.names.iter().cloned().collect();
+                let names: Vec<String> = there.names.iter().map(str::to_string).listed();
                 unknown_in_words(condition, &names)
             }),
         })
@@ -254,7 +255,7 @@ impl Session {
                     let name = &self.name;
                     say(&format!("{name}: in its first run {unknown}"));
                 }
-                there.names.extend(names.iter().cloned());
+                there.names.extend(names);
             }
         }
         there.is_answered |= ran.answer.is_some();

@@ -1,6 +1,7 @@
 //! A failing order, brought to fewer switches by a search near it.
 
 use super::process::{By, FailureMark, Ran, TIME_OF_RUN, TestProgram};
+use crate::run::listed::IntoList;
 use crate::schedule::explore::{Order, OrderKind, Schedule, Step, Turn};
 use std::fs;
 use std::time::{Duration, Instant};
@@ -104,10 +105,10 @@ impl<'a> Shortening<'a> {
 fn nearer(steps: &[Step]) -> Vec<Vec<Step>> {
     let numbered = steps.iter().enumerate();
     let switches = numbered.filter(|(_, step)| step.turn == Turn::Switch);
-    let switches: Vec<usize> = switches.map(|(at, _)| at).collect();
+    let switches: Vec<usize> = switches.map(|(at, _)| at).listed();
     let ends = switches[1..].iter().map(|end| steps[..*end].to_vec());
     let without = switches.iter().filter_map(|at| without_switch(steps, *at));
-    ends.chain(without).collect()
+    ends.chain(without).listed()
 }
 
 /// Returns the steps in another order, where what the one does next who is held at this step comes
@@ -126,7 +127,6 @@ fn without_switch(steps: &[Step], at: usize) -> Option<Vec<Step>> {
 #[cfg(test)]
 mod tests {
     use super::*;
-    use crate::schedule::explore::What;
 
     fn steps(who: &str) -> Vec<Step> {
         let mut last = ' ';
@@ -138,15 +138,7 @@ mod tests {
                     Turn::Switch
                 };
                 last = name;
-                Step {
-                    chosen: 0,
-                    count: 2,
-                    turn,
-                    what: What::Poll,
-                    at: None,
-                    waited_for: None,
-                    who: name.to_string().into(),
-                }
+                Step::poll_of(&name.to_string(), turn)
             })
             .collect()
     }

@@ -2,7 +2,8 @@
 //! same time, or another recorder of this one. Each keeps its own.
 
 use crate::channels::lock::lock;
-use std::collections::BTreeMap;
+use crate::run::by_text::TextMap;
+use crate::run::listed::IntoList;
 use std::fs;
 use std::path::{Path, PathBuf};
 use std::sync::{Mutex, OnceLock};
@@ -18,9 +19,17 @@ const TICK: Duration = Duration::from_millis(10);
 /// When this process has made its first recorder of a test.
 static BEGAN: OnceLock<SystemTime> = OnceLock::new();
 
-/// The journals that the tests of this process write, by those that each would write alone, and its
-/// own number.
-static OWN: Mutex<BTreeMap<(PathBuf, u64), PathBuf>> = Mutex::new(BTreeMap::new());
+/// A journal that a test of this process writes.
+struct OwnJournal {
+    // The one that it would write alone.
+    alone: PathBuf,
+    // The test's number.
+    test: u64,
+    written: PathBuf,
+}
+
+/// The journals that the tests of this process write, by those that each would write alone.
+static OWN: Mutex<TextMap<Vec<OwnJournal>>> = Mutex::new(TextMap::new());
 
 /// Notes that a test begins.
 pub(crate) fn begin() {
@@ -36,15 +45,20 @@ pub(crate) fn begin() {
 /// lock of the files has to be held.
 pub(super) fn in_place_of(path: &Path, test: u64) -> PathBuf {
     let mut own = lock(&OWN);
-    let key = (path.to_path_buf(), test);
-    if let Some(path) = own.get(&key) {
-        return path.clone();
+    // Paths that are no texts may be one as texts.
+    let alike = own.get_or_default(&path.to_string_lossy());
+    let of_path = || alike.iter().filter(|own| own.alone == path);
+    if let Some(known) = of_path().find(|own| own.test == test) {
+        return known.written.clone();
     }
-    let of_path = (path.to_path_buf(), 0)..=(path.to_path_buf(), u64::MAX);
-    let taken: Vec<_> = own.range(of_path).map(|(_, path)| path.clone()).collect();
-    let free = first_that_is_free(path, &taken, BEGAN.get().copied());
-    own.insert(key, free.clone());
-    free
+    let taken: Vec<_> = of_path().map(|own| own.written.clone()).listed();
+    let written = first_that_is_free(path, &taken, BEGAN.get().copied());
+    alike.push(OwnJournal {
+        alone: path.to_path_buf(),
+        test,
+        written: written.clone(),
+    });
+    written
 }
 
 /// Returns the first of the numbered journals that nobody has written or will write.

@@ -92,8 +92,7 @@ mod tests {
 
     #[test]
     fn names_that_cannot_be_written_leave_the_journal_as_it_was() {
-        let folder = crate::temporary::path("flight-names-first");
-        let _ = fs::remove_dir_all(&folder);
+        let folder = crate::temporary::fresh("flight-names-first");
         let path = folder.join("flight-20260101T000000000Z-9-1");
         // A folder is in the names' place.
         fs::create_dir_all(path.with_extension("names").join("x")).unwrap();
@@ -106,8 +105,7 @@ mod tests {
 
     #[test]
     fn a_dump_that_cannot_be_written_leaves_nothing() {
-        let folder = crate::temporary::path("flight-refused");
-        let _ = fs::remove_dir_all(&folder);
+        let folder = crate::temporary::fresh("flight-refused");
         let path = folder.join("flight-20260101T000000000Z-9-1");
         // A folder is in the journal's place.
         fs::create_dir_all(path.with_extension("journal").join("x")).unwrap();
@@ -122,8 +120,7 @@ mod tests {
     #[cfg(unix)]
     fn nobody_else_reads_a_dump_or_its_folder() {
         use std::os::unix::fs::PermissionsExt;
-        let folder = crate::temporary::path("flight-modes");
-        let _ = fs::remove_dir_all(&folder);
+        let folder = crate::temporary::fresh("flight-modes");
         let path = folder.join("new").join("flight-20260101T000000000Z-9-1");
         let journal = write(&path, "j", "n").unwrap();
         let mode = |path: &Path| fs::metadata(path).unwrap().permissions().mode() & 0o777;

@@ -2,6 +2,7 @@
 
 use crate::channels::lock::try_lock_for;
 use crate::channels::recorder::{DumpRequest, NotedPanic, PATIENCE, Shared};
+use crate::run::listed::IntoList;
 use std::panic::PanicHookInfo;
 use std::sync::{Arc, Mutex, Weak};
 use std::thread;
@@ -35,7 +36,7 @@ pub(in crate::harness) fn dump_on_panic(info: &PanicHookInfo<'_>, is_last: bool)
             let panic = NotedPanic::of(info, &recorder);
             DumpRequest::on_panic(&recorder, panic)
         })
-        .collect();
+        .listed();
     let is_main = thread::current().name() == Some("main");
     if is_main || is_last || cfg!(panic = "abort") {
         for dump in dumps {

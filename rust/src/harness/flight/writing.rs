@@ -9,6 +9,7 @@ use crate::harness::saved::{Copied, text_of};
 use crate::harness::window_names::raise_ending;
 use crate::harness::windows::Most;
 use crate::run::clock::{Moment, wall};
+use crate::run::listed::PushAll;
 use crate::run::sidecar::Sidecar;
 use crate::run::sorting::sort_by_key;
 use std::collections::TryReserveError;
@@ -66,7 +67,7 @@ fn made(request: &mut DumpRequest, copied: Copied) -> io::Result<(String, Sideca
         stamp: began.stamp + read.raised,
         ..began
     });
-    names.times.extend(began);
+    names.times.push_all(began);
     sort_by_key(&mut names.times, |moment| moment.stamp);
     names.fit_to(&read.run, &journal);
     names.add_sources(|paths| Program::this().root_of(paths));

@@ -3,6 +3,7 @@
 use super::options::{self, Speaker};
 use super::{Program, TargetKind};
 use crate::harness::stand_in;
+use crate::run::listed::{IntoList, PushAll};
 use std::path::Path;
 use std::sync::OnceLock;
 use std::{env, fs};
@@ -72,7 +73,7 @@ impl CargoRun {
         let mut run = above
             .filter(|_| program.target.is_test)
             .unwrap_or_else(by_build);
-        run.variables = set.collect();
+        run.variables = set.listed();
         run
     }
 
@@ -91,10 +92,7 @@ impl CargoRun {
         let (verb, options) = options::read(&words[1..], speaker);
         let mut run = CargoRun {
             verb,
-            options: options
-                .into_iter()
-                .flat_map(|option| option.words)
-                .collect(),
+            options: options.into_iter().flat_map(|option| option.words).listed(),
             ..CargoRun::default()
         };
         if is_nextest || matches!(run.verb.as_str(), "t" | "nextest") {
@@ -141,7 +139,7 @@ fn options_by_build(program: &Program) -> Vec<String> {
     match profile {
         None | Some("debug") => {}
         Some("release") => options.push("--release".to_string()),
-        Some(profile) => options.extend(["--profile".to_string(), profile.to_string()]),
+        Some(profile) => options.push_all(["--profile".to_string(), profile.to_string()]),
     }
     let has_patch = |folder: &Path| {
         let manifest = fs::read_to_string(folder.join("Cargo.toml"));
@@ -149,7 +147,7 @@ fn options_by_build(program: &Program) -> Vec<String> {
     };
     if let Some(patch) = patch().filter(|_| !program.package_folder.ancestors().any(has_patch)) {
         let path = patch.replace('\\', "\\\\").replace('"', "\\\"");
-        options.extend([
+        options.push_all([
             "--config".to_string(),
             format!("patch.crates-io.tokio.path=\"{path}\""),
         ]);
@@ -174,7 +172,7 @@ fn command_lines_above() -> impl Iterator<Item = Vec<String>> {
         let words = line
             .split(|byte| *byte == 0)
             .map(|word| String::from_utf8_lossy(word).into_owned());
-        let mut words: Vec<_> = words.collect();
+        let mut words: Vec<_> = words.listed();
         words.pop();
         Some(words)
     });

@@ -1,5 +1,6 @@
 //! The folder `target` of the build that a program is from.
 
+use crate::run::listed::IntoList;
 use std::env;
 use std::path::{Path, PathBuf};
 
@@ -25,7 +26,7 @@ pub(super) fn of_build(program: &Path, here: &Path) -> PathBuf {
             .into_iter()
             .filter(|_| !cfg!(target_family = "wasm"));
         let paths = names.filter_map(env::var_os);
-        let mut folders = paths.flat_map(|paths| env::split_paths(&paths).collect::<Vec<_>>());
+        let mut folders = paths.flat_map(|paths| env::split_paths(&paths).listed());
         folders.find_map(|folder| marked_above(&folder.join("program")))
     };
     // A relative one is meant from the folder in which cargo runs, and that may be one above.

@@ -1,5 +1,6 @@
 //! The build target that a program was made from.
 
+use crate::run::listed::IntoList;
 use std::path::{Component, Path, PathBuf};
 use std::{env, fs};
 
@@ -139,7 +140,7 @@ fn sources_in(text: &str) -> Vec<PathBuf> {
     let sources = sources.split(' ').filter(|source| !source.is_empty());
     sources
         .map(|source| source.replace('\0', " ").into())
-        .collect()
+        .listed()
 }
 
 /// Returns the target of a package whose root file is this, by where cargo looks for it. A target

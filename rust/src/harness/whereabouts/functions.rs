@@ -1,9 +1,10 @@
 //! The paths of functions, read in their sources. A build with `debug = "line-tables-only"` has the
 //! lines of a stack, and of many functions a name without its path, such as `{async_fn#0}`.
 
-use std::collections::HashMap;
+use crate::run::by_text::TextMap;
+use crate::run::listed::IntoList;
 use std::fs;
-use std::path::{Path, PathBuf};
+use std::path::Path;
 
 /// What may stand before the keyword of a function, beside its visibility and its ABI.
 const QUALIFIERS: [&str; 6] = ["pub", "default", "const", "async", "unsafe", "extern"];
@@ -14,26 +15,31 @@ const GOES_ON: [&str; 5] = [")", "]", "}", ">", "{"];
 /// The sources that were read for a report.
 #[derive(Default)]
 pub(super) struct ReadSources {
-    texts: HashMap<PathBuf, Option<String>>,
+    // By the paths as debugging has them, which tells all apart.
+    texts: TextMap<Option<String>>,
     // Those of lines that were asked for. Most stacks have the same outer functions.
-    functions: HashMap<(PathBuf, u32), Option<String>>,
+    functions: TextMap<Option<String>>,
 }
 
 impl ReadSources {
     /// Whether this source can be read.
     pub(super) fn can_read(&mut self, file: &Path) -> bool {
         let read = || fs::read_to_string(file).ok();
-        let text = self.texts.entry(file.to_path_buf());
-        text.or_insert_with(read).is_some()
+        let text = self.texts.get_or_insert_with(&format!("{file:?}"), read);
+        text.is_some()
     }
 
     /// Returns the path of the function that has this line of a source which can be read, as the
     /// compiler writes it. There is none within a macro, and where the source isn't formatted as
     /// rustfmt does.
     pub(super) fn function_at(&mut self, file: &Path, line: u32) -> Option<String> {
-        let text = self.texts.get(file)?.as_deref()?;
-        let known = self.functions.entry((file.to_path_buf(), line));
-        known.or_insert_with(|| path_at(text, file, line)).clone()
+        let name = format!("{file:?}");
+        let text = self.texts.get(&name)?.as_deref()?;
+        let find = || path_at(text, file, line);
+        let known = self
+            .functions
+            .get_or_insert_with(&format!("{name}:{line}"), find);
+        known.clone()
     }
 }
 
@@ -70,7 +76,7 @@ fn module_of(file: &str) -> Option<String> {
 
 /// Returns the function that has a line, and the type or trait that has the function.
 fn function_in(text: &str, line: u32) -> Option<(Option<Owner<'_>>, &str)> {
-    let lines: Vec<_> = text.lines().take(line as usize).collect();
+    let lines: Vec<_> = text.lines().take(line as usize).listed();
     let mut around = Around::of(&lines)?;
     let own = lines.last().and_then(|line| named_after(line, "fn"));
     let name = own.or_else(|| around.find_map(|line| named_after(line, "fn")))?;

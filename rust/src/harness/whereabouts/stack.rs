@@ -4,6 +4,7 @@
 
 use super::functions::ReadSources;
 use crate::harness::stacks::without_hash;
+use crate::run::listed::IntoList;
 use std::backtrace::Backtrace;
 use std::path::Path;
 
@@ -173,7 +174,7 @@ impl StackFrame {
         let parts = plain
             .split("::")
             .filter(|part| !part.is_empty() && !part.starts_with('{'));
-        let parts: Vec<_> = parts.collect();
+        let parts: Vec<_> = parts.listed();
         let [.., last] = parts[..] else {
             return String::new();
         };

@@ -11,6 +11,7 @@ mod words;
 
 use super::visible;
 use crate::run::journal::Run;
+use crate::run::listed::{IntoList, PushAll};
 use crate::run::sidecar::{Json, Sidecar};
 use side::{Keys, Side, SideCall};
 
@@ -122,10 +123,10 @@ impl Against {
         let object = Json::object(vec![
             ("version", Json::number(1)),
             ("calls", Json::List(calls.to_vec())),
-            ("differing", Json::List(differing.collect())),
+            ("differing", Json::List(differing.listed())),
             (
                 "text",
-                Json::List(self.lines.iter().map(|line| Json::text(line)).collect()),
+                Json::List(self.lines.iter().map(|line| Json::text(line)).listed()),
             ),
         ]);
         let mut out = String::new();
@@ -160,7 +161,7 @@ fn differing(here: &Side<'_>, there: &Side<'_>, listener: &mut impl Listener) ->
         }
     }
     let only = there.calls().zip(has_partner).filter(|(_, has)| !has);
-    found.extend(only.map(|((place, _), _)| Differing {
+    found.push_all(only.map(|((place, _), _)| Differing {
         kind: DiffersBy::More,
         here: None,
         there: Some(place),

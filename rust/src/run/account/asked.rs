@@ -9,6 +9,7 @@ use super::nothing_came::NothingCame;
 use super::reading::{self, ReadUpTo};
 use super::{Context, visible};
 use crate::run::journal::RunEntry;
+use crate::run::listed::{IntoList, PushAll};
 use crate::run::operation::Operation;
 use crate::run::reply::Reply;
 use crate::run::sidecar::Json;
@@ -82,25 +83,15 @@ pub(super) fn fact(context: &Context<'_>, Answered { place, .. }: &Answered) -> 
     let lead = context.history.lead;
     let calls = because.calls.into_iter().filter(|(at, ..)| *at > lead);
     let steps = calls.map(|(at, role, said)| context.call_step(at, role, said.to_string()));
-    let mut steps: Vec<_> = steps.collect();
+    let mut steps: Vec<_> = steps.listed();
     let returned = format!("returned {}", context.naming.reply(&entry));
     steps.push(context.call_step(*place, Role::Told, returned));
     let mut members = vec![
         ("channel", Json::number(entry.channel)),
         ("handle", Json::number(entry.handle)),
     ];
-    members.extend(entry.reply.number().map(|it| ("answer", Json::number(it))));
-    Fact {
-        order: orders::LAST_VALUE,
-        kind: "asked",
-        members,
-        head: because.text,
-        sights: (0..steps.len()).rev().collect(),
-        look: *place,
-        steps,
-        last: None,
-        late: vec![],
-    }
+    members.push_all(entry.reply.number().map(|it| ("answer", Json::number(it))));
+    Fact::new("asked", members, because.text, steps, *place)
 }
 
 /// A receiver of a watch has marked the last change, or hasn't.
@@ -240,7 +231,7 @@ fn sender_len(context: &Context<'_>, place: u64, entry: &RunEntry) -> Because {
             naming.receiver(entry.channel, *slowest).full,
             overwritten_before(context, entry.channel, overwritten),
         ),
-        calls: in_order([last].into_iter().chain(left).collect()),
+        calls: in_order([last].into_iter().chain(left).listed()),
     }
 }
 
@@ -261,7 +252,7 @@ fn receiver_count(context: &Context<'_>, place: u64, entry: &RunEntry) -> Becaus
     let naming = context.naming;
     let full = |receiver: u32| naming.receiver(entry.channel, receiver).full;
     let receivers = reading::receivers_at(context, entry.channel, place);
-    let names: Vec<_> = receivers.iter().map(|it| full(*it)).collect();
+    let names: Vec<_> = receivers.iter().map(|it| full(*it)).listed();
     let names = match names.as_slice() {
         [] => String::new(),
         names => format!(": {}", visible::first(names, NAMED, ", ")),

@@ -5,6 +5,7 @@ use super::fact::{Fact, FactStep, Role};
 use super::finding::orders;
 use super::{Context, visible};
 use crate::run::journal::{Closing, LateReader, Spec};
+use crate::run::listed::{IntoList, PushAll};
 use crate::run::reply::Reply;
 use crate::run::sidecar::Json;
 use crate::run::sorting::sort_by_key;
@@ -59,7 +60,7 @@ pub(super) fn found(context: &Context<'_>) -> Vec<Closed> {
             failed: told_to_failed(context, closing.channel),
         })
         .filter(|closed| !closed.receivers.is_empty())
-        .collect();
+        .listed();
     sort_by_key(&mut closed, |closed| {
         (closed.is_known(), closed.closing.place)
     });
@@ -91,7 +92,7 @@ fn receivers(context: &Context<'_>, channel: u32) -> Vec<LateReader> {
     let late = late[first..end].iter();
     late.filter(|after| after.told.is_some() || is_there(after))
         .copied()
-        .collect()
+        .listed()
 }
 
 /// Puts a closing into words.
@@ -122,23 +123,14 @@ fn fact_of_failed(context: &Context<'_>, closed: &Closed, told: u64) -> Fact {
             naming.call(told, &call),
         ),
     ];
-    Fact {
-        order: closed.order(),
-        kind: "closing",
-        members: members(context, closed),
-        head: format!(
-            "{} was told Closed, since {} the last sender of {} ({})",
-            receiver.full,
-            context.who_dropped(place),
-            naming.channel(channel),
-            visible::call(place),
-        ),
-        sights: vec![1, 0],
-        steps,
-        last: None,
-        late: vec![],
-        look: place,
-    }
+    let head = format!(
+        "{} was told Closed, since {} the last sender of {} ({})",
+        receiver.full,
+        context.who_dropped(place),
+        naming.channel(channel),
+        visible::call(place),
+    );
+    Fact::new("closing", members(context, closed), head, steps, place)
 }
 
 fn members(context: &Context<'_>, closed: &Closed) -> Vec<(&'static str, Json)> {
@@ -161,29 +153,23 @@ fn fact_of_all(context: &Context<'_>, closed: &Closed) -> Fact {
     let receivers = closed.receivers.iter();
     let told = receivers.clone().filter_map(|it| Some((it.told?, it)));
     let not_told = receivers.filter(|after| after.told.is_none());
-    let not_told: Vec<_> = not_told.map(|after| missed(context, after)).collect();
+    let not_told: Vec<_> = not_told.map(|after| missed(context, after)).listed();
     let count = closed.receivers.len() - not_told.len();
     let close = "dropped the last sender".to_string();
     let mut steps = vec![context.step(place, Role::Close, close, String::new())];
     let first = told.min_by_key(|(place, _)| *place);
-    steps.extend(first.map(|(place, after)| first_told(context, place, after)));
+    steps.push_all(first.map(|(place, after)| first_told(context, place, after)));
+    let head = format!(
+        "{} closed, and {}",
+        context.naming.channel(channel),
+        how_many_were_told(count, closed.receivers.len()),
+    );
     Fact {
-        order: closed.order(),
-        kind: "closing",
-        members: members(context, closed),
-        head: format!(
-            "{} closed, and {}",
-            context.naming.channel(channel),
-            how_many_were_told(count, closed.receivers.len()),
-        ),
-        sights: (0..steps.len()).rev().collect(),
-        steps,
         last: (!not_told.is_empty()).then(|| {
             let names = visible::first(&not_told, NAMED, ", ");
             format!("  not that far: {names}")
         }),
-        late: vec![],
-        look: place,
+        ..Fact::new("closing", members(context, closed), head, steps, place)
     }
 }
 
@@ -205,7 +191,7 @@ fn first_told(context: &Context<'_>, place: u64, after: &LateReader) -> FactStep
         0 => None,
         count => Some(after_more(context, after.channel, count)),
     };
-    let said: Vec<_> = name.into_iter().chain(read_on).collect();
+    let said: Vec<_> = name.into_iter().chain(read_on).listed();
     context.step(
         place,
         Role::Told,

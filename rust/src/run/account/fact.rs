@@ -3,6 +3,7 @@
 use super::columns::{self, Cells};
 use super::finding::orders;
 use super::times::CallTime;
+use crate::run::listed::PushAll;
 use crate::run::sidecar::{Json, SourceLocation};
 use std::iter;
 
@@ -34,38 +35,32 @@ pub(crate) enum Role {
 }
 
 impl Role {
+    /// The word for it in JSON, and what it is in a sentence with nothing but its place in the
+    /// sources.
+    fn words(self) -> (&'static str, &'static str) {
+        match self {
+            Role::Cause => ("cause", "the send that overwrote the first of them"),
+            Role::Told => ("told", "the call that was told"),
+            Role::Dropped => ("dropped", "the drop of the receiver"),
+            Role::Failure => ("failure", "it had not been told by then"),
+            Role::End => ("end", "the end of the run"),
+            Role::Look => ("look", "its last look"),
+            Role::Change => ("change", "the last change"),
+            Role::Close => ("close", "the drop that closed it"),
+            Role::Panic => ("panic", "the panic"),
+            Role::Sent => ("sent", "the send"),
+            Role::Begin => ("begin", "where it began"),
+        }
+    }
+
     /// The word for it in JSON.
     pub(crate) fn word(self) -> &'static str {
-        match self {
-            Role::Cause => "cause",
-            Role::Told => "told",
-            Role::Dropped => "dropped",
-            Role::Failure => "failure",
-            Role::End => "end",
-            Role::Look => "look",
-            Role::Change => "change",
-            Role::Close => "close",
-            Role::Panic => "panic",
-            Role::Sent => "sent",
-            Role::Begin => "begin",
-        }
+        self.words().0
     }
 
     /// What it is in a sentence with nothing but its place in the sources.
     pub(crate) fn sentence(self) -> &'static str {
-        match self {
-            Role::Cause => "the send that overwrote the first of them",
-            Role::Told => "the call that was told",
-            Role::Dropped => "the drop of the receiver",
-            Role::Failure => "it had not been told by then",
-            Role::End => "the end of the run",
-            Role::Look => "its last look",
-            Role::Change => "the last change",
-            Role::Close => "the drop that closed it",
-            Role::Panic => "the panic",
-            Role::Sent => "the send",
-            Role::Begin => "where it began",
-        }
+        self.words().1
     }
 }
 
@@ -87,6 +82,20 @@ pub(crate) struct FactStep {
 }
 
 impl FactStep {
+    /// Returns a step of which nothing is known but this.
+    pub(super) fn new(place: u64, role: Role, cells: Cells) -> FactStep {
+        FactStep {
+            place,
+            role,
+            actor: None,
+            location: None,
+            made: None,
+            time: None,
+            stamp: None,
+            cells,
+        }
+    }
+
     /// Which step it is, as `call 3` or `the panic`.
     pub(crate) fn name(&self) -> &str {
         &self.cells[0]
@@ -150,6 +159,28 @@ pub(crate) struct Fact {
 }
 
 impl Fact {
+    /// Returns a fact whose last step is worth most, then the one before it. Its order comes from
+    /// what was found.
+    pub(super) fn new(
+        kind: &'static str,
+        members: Vec<(&'static str, Json)>,
+        head: String,
+        steps: Vec<FactStep>,
+        look: u64,
+    ) -> Fact {
+        Fact {
+            order: 0,
+            kind,
+            members,
+            head,
+            sights: (0..steps.len()).rev().collect(),
+            steps,
+            last: None,
+            late: vec![],
+            look,
+        }
+    }
+
     /// Returns its level. The first fact of a run says what failed, but for what is usual in a test
     /// that passes: a receiver of a watch that looks and doesn't mark, or that was never used, and
     /// a channel that closed. Nor is it known that a failure came of a call that another thread or
@@ -174,9 +205,9 @@ impl Fact {
         let mut text = vec![self.head.clone()];
         let steps = self.steps.iter();
         let others = steps.filter(|step| !places.contains(&step.place));
-        text.extend(columns::aligned(others.map(|step| &step.cells)));
-        text.extend(self.last.clone());
-        text.extend(self.late.iter().map(|late| format!("  late: {late}")));
+        text.push_all(columns::aligned(others.map(|step| &step.cells)));
+        text.push_all(self.last.clone());
+        text.push_all(self.late.iter().map(|late| format!("  late: {late}")));
         text
     }
 

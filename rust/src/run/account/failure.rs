@@ -4,6 +4,7 @@
 use super::history::History;
 use super::visible;
 use crate::run::journal::{Run, RunEntry};
+use crate::run::listed::{IntoList, PushAll};
 use crate::run::operation::Operation;
 use crate::run::reply::Reply;
 use crate::run::sidecar::{Panic, Sidecar, SourceLocation};
@@ -63,7 +64,7 @@ impl Failure {
             location: panic.location,
             panic: Some(index),
         });
-        let mut all: Vec<_> = panics.collect();
+        let mut all: Vec<_> = panics.listed();
         let end = end_of_panics(&all, names, history);
         let error = names.ending.returned.as_ref().map(|error| FailureAt {
             name: "the error",
@@ -77,7 +78,7 @@ impl Failure {
         } else {
             end
         };
-        all.extend(error);
+        all.push_all(error);
         let last_call = end.and_then(|end| last_call(run, names, history, &all[end]));
         let is_why = |call: &LastCall| call.is_named || is_refused(&run.entry(call.place));
         Failure {
@@ -140,7 +141,7 @@ impl Failure {
             let at = &self.all[at];
             history.last_told(at.actor?, at.place)
         });
-        told.collect()
+        told.listed()
     }
 }
 

@@ -7,16 +7,17 @@ use super::panicked::Panicked;
 use super::silence::Silence;
 use super::watches::Overlooked;
 use super::{Context, Fact, MOST_TOLD, asked, closings, losses, panicked, silence, watches};
+use crate::run::listed::{IntoList, PushAll};
 
 /// Puts findings in the order of their rules. Those of one rule stay in theirs. A sort of so large
 /// things would be a good part of the page's engine.
 fn in_order(all: Vec<Finding>) -> Vec<Finding> {
     let mut sorted = Vec::with_capacity(all.len());
-    let mut left: Vec<_> = all.into_iter().map(Some).collect();
+    let mut left: Vec<_> = all.into_iter().map(Some).listed();
     for order in orders::PANIC..=orders::ENDED {
         for finding in &mut left {
             if finding.as_ref().is_some_and(|it| it.order() == order) {
-                sorted.extend(finding.take());
+                sorted.push_all(finding.take());
             }
         }
     }
@@ -85,7 +86,7 @@ impl Finding {
             let mut asked = asked.iter();
             !asked.any(|asked| asked.tells_of(context, it.receiver()))
         });
-        let watches: Vec<_> = watches.collect();
+        let watches: Vec<_> = watches.listed();
         let panics = panicked.into_iter().map(Finding::Panic);
         let all: Vec<_> = panics
             .chain(losses.map(Finding::Loss))
@@ -93,7 +94,7 @@ impl Finding {
             .chain(asked.map(Finding::Answered))
             .chain(watches.into_iter().map(Finding::Overlooked))
             .chain(closings.map(Finding::Closing))
-            .collect();
+            .listed();
         in_order(all)
     }
 

@@ -2,6 +2,7 @@
 //! once. What a window's lead has is none of what anybody did.
 
 use crate::run::journal::{Run, RunEntry};
+use crate::run::listed::IntoList;
 use crate::run::operation::{CallSet, Kind, Operation};
 use crate::run::reply::Reply;
 use crate::run::sidecar::Sidecar;
@@ -81,7 +82,7 @@ impl History {
     pub(super) fn of(run: &Run, names: &Sidecar) -> History {
         let mut history = History {
             lead: names.lead(),
-            channels: run.specs().iter().map(|_| ChannelHistory::new()).collect(),
+            channels: run.specs().iter().map(|_| ChannelHistory::new()).listed(),
             actors: vec![],
             indexes: Vec::with_capacity(run.len() as usize),
         };
@@ -267,7 +268,7 @@ impl ChannelHistory {
                     handle.dropped = Some((place, entry.actor));
                 }
             }
-            Reply::Sent(_) | Reply::Stored | Reply::Old(_) | Reply::Told(1) => {
+            reply if reply.is_change() => {
                 self.changes += 1;
                 self.last_sent = place;
             }
@@ -276,10 +277,7 @@ impl ChannelHistory {
     }
 
     fn note(&mut self, place: u64, entry: &RunEntry) {
-        self.is_changed |= matches!(
-            entry.reply,
-            Reply::Sent(_) | Reply::Stored | Reply::Old(_) | Reply::Told(1)
-        );
+        self.is_changed |= entry.reply.is_change();
         self.note_unreached(place, entry);
         let is_first = !self.is_changed;
         let is_receive = self.is_receive(entry);
@@ -316,6 +314,8 @@ impl ChannelHistory {
 
     /// Returns the handles, by their numbers.
     pub(super) fn handles(&self) -> impl Iterator<Item = (u32, &HandleHistory)> {
+        #[cfg(test)]
+        crate::run::steps::add(self.handles.len());
         (0..).zip(&self.handles)
     }
 

@@ -4,6 +4,7 @@ use super::rest::KindCount;
 use super::window::WindowSaid;
 use super::{Account, Fact, FactStep, Failed, PendingTask, Rest, WaitAtEnd};
 use crate::run::journal::{Loss, LossEnd};
+use crate::run::listed::{IntoList, PushAll};
 use crate::run::sidecar::{Json, SourceLocation, push_string};
 use std::fmt::Write;
 
@@ -31,7 +32,7 @@ impl Account {
             push_window(&mut out, window);
         }
         let unknown = self.unknown.iter().map(|line| Json::text(line));
-        push_member(&mut out, "unknown", &Json::List(unknown.collect()));
+        push_member(&mut out, "unknown", &Json::List(unknown.listed()));
         push_member(
             &mut out,
             "failed",
@@ -114,10 +115,10 @@ fn fact(fact: &Fact) -> Json {
         ("kind", Json::text(fact.kind)),
         ("order", Json::number(fact.order)),
     ];
-    members.extend(fact.members.iter().cloned());
+    members.push_all(fact.members.iter().cloned());
     let places = fact.steps.iter().enumerate();
     let places = places.map(|(index, step)| place(index, step));
-    members.push(("places", Json::List(places.collect())));
+    members.push(("places", Json::List(places.listed())));
     if !fact.late.is_empty() {
         members.push(("late", texts(&fact.late)));
     }
@@ -126,7 +127,7 @@ fn fact(fact: &Fact) -> Json {
 }
 
 fn texts(texts: &[String]) -> Json {
-    Json::List(texts.iter().map(|text| Json::text(text)).collect())
+    Json::List(texts.iter().map(|text| Json::text(text)).listed())
 }
 
 /// A step of a fact, with the index of its line.
@@ -141,7 +142,7 @@ fn place(index: usize, step: &FactStep) -> Json {
     if let Some(time) = step.time {
         members.push(("time", Json::text(&time.iso())));
     }
-    members.extend(step.stamp.map(|stamp| ("stamp", Json::number(stamp))));
+    members.push_all(step.stamp.map(|stamp| ("stamp", Json::number(stamp))));
     Json::object(members)
 }
 
@@ -178,7 +179,7 @@ fn wait(wait: &WaitAtEnd) -> Json {
     }
     members.push(("text", Json::text(&wait.text)));
     let stamp = wait.since_stamp;
-    members.extend(stamp.map(|stamp| ("since_stamp", Json::number(stamp))));
+    members.push_all(stamp.map(|stamp| ("since_stamp", Json::number(stamp))));
     Json::object(members)
 }
 

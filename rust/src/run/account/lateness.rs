@@ -8,6 +8,7 @@ mod stretches;
 mod tests;
 mod texts;
 
+use crate::run::listed::{IntoList, PushAll};
 pub(crate) use pending::PendingTask;
 pub(super) use pending::all as pending;
 
@@ -15,7 +16,6 @@ use super::history::History;
 use super::{Context, visible};
 use crate::run::journal::{Run, RunEntry};
 use crate::run::numbered::{NumberMap, NumberSet};
-use crate::run::reply::Reply;
 use crate::run::sidecar::{SeenPoll, SeenTask, Sidecar, TasksSeen, WaitingCall};
 use crate::run::sorting::sort_by_key;
 use std::cell::RefCell;
@@ -148,12 +148,7 @@ impl SkippedChanges {
 
 /// Whether a call sent a value to a channel, or changed it.
 fn is_sent(entry: &RunEntry) -> bool {
-    let reply = entry.reply;
-    entry.value.is_some()
-        && matches!(
-            reply,
-            Reply::Sent(_) | Reply::Stored | Reply::Old(_) | Reply::Told(1)
-        )
+    entry.value.is_some() && entry.reply.is_change()
 }
 
 /// Returns the poll of a task in which the call with this stamp was made, by its index.
@@ -169,7 +164,7 @@ fn task_of(seen: &TasksSeen, actor: u64, stamps: &[u64]) -> Option<usize> {
     let of_actor = seen.tasks.iter().enumerate();
     let of_actor = of_actor.filter(|(_, task)| task.actor == Some(actor));
     let has_made = |task: &SeenTask| stamps.iter().any(|stamp| poll_of(task, *stamp).is_some());
-    let all: Vec<_> = of_actor.collect();
+    let all: Vec<_> = of_actor.listed();
     let mut callers = all.iter().filter(|(_, task)| has_made(task));
     let first = callers.next().map(|(index, _)| *index);
     let caller = first.map(|first| {
@@ -199,7 +194,7 @@ pub(super) fn lines(context: &Context<'_>, late: &Late) -> Vec<String> {
         }
     };
     let stamps = [late.received, late.told].map(stamp);
-    let stamps: Vec<_> = stamps.into_iter().filter(|stamp| *stamp > 0).collect();
+    let stamps: Vec<_> = stamps.into_iter().filter(|stamp| *stamp > 0).listed();
     let Some(task) = task_of(seen, late.actor, &stamps) else {
         return vec!["it isn't polled by a task that is seen".to_string()];
     };
@@ -238,7 +233,7 @@ impl Reasons<'_> {
         }
         let stretches = stretches::within(self.own(), self.window, self.seen.now);
         let is_busy = |stretch: &Stretch| !self.is_idle(stretch);
-        let stretches: Vec<_> = stretches.into_iter().filter(is_busy).collect();
+        let stretches: Vec<_> = stretches.into_iter().filter(is_busy).listed();
         if let Some((lines, is_alone)) = self.burst() {
             let works =
                 |it: &Stretch| !matches!(it.doing, TaskDoing::Ready) && it.to >= self.window.1;
@@ -264,7 +259,7 @@ impl Reasons<'_> {
                 .take_while(|it| self.is_alike(stretch, it))
                 .count();
             let together = &told[index..index + alike];
-            lines.extend(self.text(together));
+            lines.push_all(self.text(together));
             index += alike;
         }
         lines.truncate(MOST_LINES);
@@ -315,7 +310,7 @@ impl Reasons<'_> {
                 is_last(stretch) || stretch.doing == TaskDoing::Waited
             }
         };
-        let mut told: Vec<_> = stretches.into_iter().filter(is_told).collect();
+        let mut told: Vec<_> = stretches.into_iter().filter(is_told).listed();
         // Many short waits at one place are told as one.
         if told.len() > MOST_LINES * 16 {
             sort_by_key(&mut told, |stretch| std::cmp::Reverse(stretch.time));
@@ -358,7 +353,7 @@ impl Reasons<'_> {
             let entry = run.entry(*place);
             (entry.channel, entry.actor) == (by.channel, by.actor) && is_sent(&entry)
         });
-        sends.collect()
+        sends.listed()
     }
 
     /// Says that the task of the receiver has itself sent what it didn't receive.
@@ -390,7 +385,7 @@ impl Reasons<'_> {
         self.context.lateness.note(poll.before, poll.last());
         let task = &self.seen.tasks[sender];
         let mut lines = vec![self.texts.burst(task, &sends, is_alone)];
-        lines.extend(self.texts.woken_for(task, poll));
+        lines.push_all(self.texts.woken_for(task, poll));
         Some((lines, is_alone))
     }
 
@@ -487,5 +482,5 @@ pub(super) fn of_wait(context: &Context<'_>, call: &WaitingCall, at: u64) -> Vec
             (stretch.doing == TaskDoing::Waited)
                 .then(|| texts.waited(&name, task, &stretch, (stretch.index, 1)))
         });
-    lines.take(MOST_SENDERS).collect()
+    lines.take(MOST_SENDERS).listed()
 }

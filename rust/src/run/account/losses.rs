@@ -10,6 +10,7 @@ use super::traffic::LostValues;
 use super::window::number_in_snapshots;
 use super::{Context, visible};
 use crate::run::journal::{Loss, LossEnd, Spec};
+use crate::run::listed::{IntoList, PushAll};
 use crate::run::numbered::{NumberMap, NumberSet};
 use crate::run::sidecar::Json;
 use crate::run::sorting::sort_by_key;
@@ -112,7 +113,7 @@ pub(super) fn found(context: &Context<'_>) -> Vec<Lost> {
             None => drop(by_receiver.insert(key, one)),
         }
     }
-    let mut all: Vec<_> = by_receiver.into_values().collect();
+    let mut all: Vec<_> = by_receiver.into_values().listed();
     // The sort is stable: receivers that lost as many are in the order of channel and number.
     sort_by_key(&mut all, |lost| {
         (lost.rank, Reverse(lost.count), lost.told.from)
@@ -164,22 +165,18 @@ pub(super) fn fact(context: &Context<'_>, lost: &Lost) -> Fact {
     let receiver = context.naming.receiver(loss.channel, loss.receiver);
     let values = context.traffic.lost(lost.index);
     let end = ToldEnd::of(context, loss);
+    let members = members(context, lost, &receiver, end);
+    let head = headline(context, lost, &receiver);
+    let cause = cause(context, loss, &values, &receiver);
+    let steps = vec![cause, end_step(context, lost, end)];
     Fact {
-        order: lost.rank.order(),
-        kind: "loss",
-        members: members(context, lost, &receiver, end),
-        head: headline(context, lost, &receiver),
-        steps: vec![
-            cause(context, loss, &values, &receiver),
-            end_step(context, lost, end),
-        ],
         last: Some(lost_line(context, loss, &values)),
         late: late(context, lost, &values, end),
         sights: match end {
             ToldEnd::Told(_) => vec![1, 0],
             _ => vec![0, 1],
         },
-        look: look(context, loss, end),
+        ..Fact::new("loss", members, head, steps, look(context, loss, end))
     }
 }
 
@@ -272,8 +269,8 @@ fn members(
     if came.is_most {
         members.push(("at_most", Json::Bool(true)));
     }
-    members.extend(idle(context, lost).map(|time| ("idle", Json::number(time))));
-    members.extend(received(context, lost).map(|call| ("received", call)));
+    members.push_all(idle(context, lost).map(|time| ("idle", Json::number(time))));
+    members.push_all(received(context, lost).map(|call| ("received", call)));
     members
 }
 
@@ -408,7 +405,7 @@ fn received(context: &Context<'_>, lost: &Lost) -> Option<Json> {
         ("stamp", Json::number(stamp)),
     ];
     let time = context.times.at(stamp);
-    members.extend(time.map(|time| ("time", Json::text(&time.iso()))));
+    members.push_all(time.map(|time| ("time", Json::text(&time.iso()))));
     Some(Json::object(members))
 }
 

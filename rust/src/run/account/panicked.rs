@@ -3,8 +3,8 @@
 
 use super::fact::{Fact, FactStep, Role};
 use super::failure::FailureAt;
-use super::finding::orders;
 use super::{Context, visible};
+use crate::run::listed::{IntoList, PushAll};
 use crate::run::operation::Operation;
 use crate::run::reply::Reply;
 use crate::run::sidecar::Json;
@@ -45,7 +45,7 @@ impl Panicked {
 /// Returns the panic of another thread or task that comes before the failure, if there is one: the
 /// one that the failure names, or whose unwinding closed what the last call needed, or the last.
 pub(super) fn found(context: &Context<'_>) -> Option<Panicked> {
-    let uncaught: Vec<_> = context.failure.uncaught(context.history).copied().collect();
+    let uncaught: Vec<_> = context.failure.uncaught(context.history).copied().listed();
     let closed = closed(context);
     let joined = is_joined(context).then(|| joined(context, &uncaught));
     let closer = closed.and_then(|closed| {
@@ -132,27 +132,15 @@ pub(super) fn fact(context: &Context<'_>, panicked: &Panicked) -> Fact {
     let closing = panicked.closed.map(|closed| came_of(context, closed));
     let mut steps = vec![panic_step(context, at, who.clone())];
     if let Some(closed) = panicked.closed {
-        steps.extend(steps_of(context, closed));
+        steps.push_all(steps_of(context, closed));
     }
+    let number = at.panic.map_or(Json::Null, Json::number);
+    let members = vec![("name", Json::text(&who)), ("panic", number)];
+    let head = format!("`{who}` panicked{place}{of}{}", closing.unwrap_or_default());
     Fact {
-        order: if panicked.is_cause {
-            orders::PANIC
-        } else {
-            orders::EARLIER_PANIC
-        },
-        kind: "panic",
-        members: vec![("name", Json::text(&who)), ("panic", panic_number(at))],
-        head: format!("`{who}` panicked{place}{of}{}", closing.unwrap_or_default()),
-        sights: (0..steps.len()).collect(),
-        look: at.place,
-        steps,
-        last: None,
-        late: vec![],
+        sights: (0..steps.len()).listed(),
+        ..Fact::new("panic", members, head, steps, at.place)
     }
-}
-
-fn panic_number(at: &FailureAt) -> Json {
-    at.panic.map_or(Json::Null, Json::number)
 }
 
 /// Says what a panic closed, and who was told so.
@@ -172,21 +160,17 @@ fn came_of(context: &Context<'_>, closed: ClosedBy) -> String {
 
 fn panic_step(context: &Context<'_>, at: &FailureAt, who: String) -> FactStep {
     let location = context.naming.source(at.location.unwrap_or(usize::MAX));
+    let cells = [
+        "a panic".to_string(),
+        "unwinds".to_string(),
+        who,
+        location.map_or(String::new(), visible::line_of),
+        String::new(),
+    ];
     FactStep {
-        place: at.place,
-        role: Role::Panic,
         actor: at.actor,
         location: location.cloned(),
-        made: None,
-        time: None,
-        stamp: None,
-        cells: [
-            "a panic".to_string(),
-            "unwinds".to_string(),
-            who,
-            location.map_or(String::new(), visible::line_of),
-            String::new(),
-        ],
+        ..FactStep::new(at.place, Role::Panic, cells)
     }
 }
 

@@ -1,6 +1,7 @@
 //! How far the receivers of a broadcast had read at a place.
 
 use super::{Context, visible};
+use crate::run::listed::IntoList;
 use crate::run::operation::Operation;
 use crate::run::reply::Reply;
 
@@ -117,7 +118,7 @@ pub(super) fn is_new(context: &Context<'_>, (channel, receiver): (u32, u32), bef
 pub(super) fn receivers_at(context: &Context<'_>, channel: u32, at: u64) -> Vec<u32> {
     let handles = context.history.channel(channel).handles();
     let there = handles.filter(|(_, it)| it.is_receiver && it.is_alive_at(at));
-    there.map(|(number, _)| number).collect()
+    there.map(|(number, _)| number).listed()
 }
 
 /// Returns the place of the last drop of a receiver before a place.

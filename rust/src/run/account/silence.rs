@@ -10,6 +10,7 @@ use super::nothing_came::NothingCame;
 use super::reading::last_drop;
 use super::window::number_in_snapshots;
 use super::{Context, last_change, lateness, locked, value, visible, waits, woken};
+use crate::run::listed::{IntoList, PushAll};
 use crate::run::reply::Reply;
 use crate::run::sidecar::{Json, WaitingCall};
 use crate::run::sorting::sort_by;
@@ -93,13 +94,13 @@ pub(super) fn found(context: &Context<'_>) -> Vec<Silence> {
     let dropped = dropped(context).into_iter().map(Silence::Dropped);
     let waits = waits_of_failure(context);
     let found = dropped.chain(waits).chain(empty).chain(value);
-    let mut found: Vec<_> = found.collect();
+    let mut found: Vec<_> = found.listed();
     let told: Vec<_> = found
         .iter()
         .filter_map(|it| it.tells_unreached(context))
-        .collect();
+        .listed();
     let unreached = (0..context.run.specs().len() as u32).filter(|it| !told.contains(it));
-    found.extend(unreached.filter_map(|channel| {
+    found.push_all(unreached.filter_map(|channel| {
         let unreached = context.history.channel(channel).unreached?;
         Some(Silence::Unreached(
             channel,
@@ -122,7 +123,7 @@ fn waits_of_failure(context: &Context<'_>) -> impl Iterator<Item = Silence> {
     let calls = names.waiting.iter().chain(&names.waited_at_failure);
     let calls = calls.enumerate();
     let calls = calls.filter(|(_, call)| is_why && call.channel < channels);
-    let mut calls: Vec<_> = calls.map(|(index, call)| (call.since, index)).collect();
+    let mut calls: Vec<_> = calls.map(|(index, call)| (call.since, index)).listed();
     sort_by(&mut calls, |one, other| one.cmp(other));
     calls.into_iter().map(|(_, index)| Silence::Waits(index))
 }
@@ -133,11 +134,13 @@ fn has_timed_out(context: &Context<'_>) -> bool {
     text.is_some_and(|text| TIMED_OUT.iter().any(|word| visible::has(text, word)))
 }
 
-/// Returns the wait that who failed dropped last, if it made no call since. One that is told as a
-/// wait at the failure was dropped by its unwinding.
+/// Returns the wait that who failed dropped last, if it made no call since and is on a channel of
+/// the run. One that is told as a wait at the failure was dropped by its unwinding.
 fn dropped(context: &Context<'_>) -> Option<usize> {
     let FailureAt { place, actor, .. } = context.failure.end()?;
+    let channels = context.run.specs().len() as u64;
     let dropped = context.names.dropped_waits.iter().enumerate().rev();
+    let dropped = dropped.filter(|(_, call)| call.channel < channels);
     let is_last = |call: &WaitingCall| {
         let until = context.run.place_of_stamp(call.until.unwrap_or(call.since));
         let last = context.history.last_call(call.actor);
@@ -215,26 +218,23 @@ fn waited(context: &Context<'_>, call: &WaitingCall) -> Fact {
             stamp.map_or(did.clone(), |stamp| format!("{did}; {stamp} in snapshots")),
         ],
     });
+    let kind = if call.until.is_some() {
+        "dropped"
+    } else {
+        "wait"
+    };
+    let members = vec![
+        ("channel", Json::number(channel)),
+        ("handle", Json::number(handle)),
+        ("call", Json::text(&call.call)),
+        ("name", Json::text(&who)),
+        ("waited", call.waited.map_or(Json::Null, Json::number)),
+    ];
+    let head = format!("`{method}` of {who} {verb}: {}", why.text);
     Fact {
-        order: orders::WAITED,
-        kind: if call.until.is_some() {
-            "dropped"
-        } else {
-            "wait"
-        },
-        members: vec![
-            ("channel", Json::number(channel)),
-            ("handle", Json::number(handle)),
-            ("call", Json::text(&call.call)),
-            ("name", Json::text(&who)),
-            ("waited", call.waited.map_or(Json::Null, Json::number)),
-        ],
-        head: format!("`{method}` of {who} {verb}: {}", why.text),
-        sights: (0..steps.len()).rev().collect(),
-        look: since,
-        steps,
         last: why.last,
         late,
+        ..Fact::new(kind, members, head, steps, since)
     }
 }
 
@@ -278,7 +278,7 @@ fn why_it_waits(context: &Context<'_>, call: &WaitingCall, until: u64) -> WhyItW
     WhyItWaits {
         is_woken: false,
         text: why.text(context),
-        steps: steps.collect(),
+        steps: steps.listed(),
         last: who_could_end(context, call, until),
     }
 }
@@ -288,24 +288,16 @@ fn found_nothing(context: &Context<'_>, place: u64) -> Fact {
     let entry = context.run.entry(place);
     let receiver = context.naming.receiver(entry.channel, entry.handle);
     let why = NothingCame::of(context, (entry.channel, entry.handle), place);
-    let mut steps: Vec<_> = why.steps(context).collect();
+    let mut steps: Vec<_> = why.steps(context).listed();
     let call = context.naming.call(place, &entry);
     steps.push(context.step(place, Role::Told, "found nothing".to_string(), call));
-    Fact {
-        order: orders::LAST_CALL,
-        kind: "empty",
-        members: vec![
-            ("channel", Json::number(entry.channel)),
-            ("receiver", Json::number(entry.handle)),
-            ("name", Json::text(&receiver.short)),
-        ],
-        head: format!("{} found nothing: {}", receiver.full, why.text(context)),
-        sights: (0..steps.len()).rev().collect(),
-        look: place,
-        steps,
-        last: None,
-        late: vec![],
-    }
+    let members = vec![
+        ("channel", Json::number(entry.channel)),
+        ("receiver", Json::number(entry.handle)),
+        ("name", Json::text(&receiver.short)),
+    ];
+    let head = format!("{} found nothing: {}", receiver.full, why.text(context));
+    Fact::new("empty", members, head, steps, place)
 }
 
 /// Puts sends that reached nobody into words.
@@ -335,27 +327,22 @@ fn reached_nobody(context: &Context<'_>, channel: u32, unreached: Unreached) -> 
         context.step(place, Role::Sent, call, said.to_string())
     };
     let mut steps = vec![step(first, "reached nobody")];
-    steps.extend((last > first).then(|| step(last, "the last that reached nobody")));
+    steps.push_all((last > first).then(|| step(last, "the last that reached nobody")));
     if let Some((made, _)) = later.filter(|(made, _)| *made > 0) {
         let created = "created a receiver".to_string();
         steps.push(context.step(made, Role::Begin, created, String::new()));
     }
+    let members = vec![
+        ("channel", Json::number(channel)),
+        ("sends", Json::number(count)),
+    ];
+    let head = format!(
+        "{sends} of {} reached nobody{then}",
+        naming.channel(channel)
+    );
     Fact {
-        order: orders::UNREACHED,
-        kind: "unreached",
-        members: vec![
-            ("channel", Json::number(channel)),
-            ("sends", Json::number(count)),
-        ],
-        head: format!(
-            "{sends} of {} reached nobody{then}",
-            naming.channel(channel)
-        ),
-        sights: (0..steps.len()).collect(),
-        look: first,
-        steps,
-        last: None,
-        late: vec![],
+        sights: (0..steps.len()).listed(),
+        ..Fact::new("unreached", members, head, steps, first)
     }
 }
 
@@ -377,26 +364,16 @@ fn refused_send(context: &Context<'_>) -> Fact {
         let what = "dropped the last receiver".to_string();
         context.step(dropped, Role::Close, what, String::new())
     });
-    let mut steps: Vec<_> = close.into_iter().collect();
+    let mut steps: Vec<_> = close.into_iter().listed();
     let call = naming.call(place, &entry);
     steps.push(context.step(place, Role::Told, call, "reached nobody".to_string()));
-    Fact {
-        order: orders::LAST_CALL,
-        kind: "unreached",
-        members: vec![
-            ("channel", Json::number(entry.channel)),
-            ("sends", Json::number(1)),
-        ],
-        head: format!(
-            "a send of {} reached nobody, {why}",
-            naming.channel(entry.channel)
-        ),
-        sights: (0..steps.len()).rev().collect(),
-        look: dropped.unwrap_or(place),
-        steps,
-        last: None,
-        late: vec![],
-    }
+    let members = vec![
+        ("channel", Json::number(entry.channel)),
+        ("sends", Json::number(1)),
+    ];
+    let channel = naming.channel(entry.channel);
+    let head = format!("a send of {channel} reached nobody, {why}");
+    Fact::new("unreached", members, head, steps, dropped.unwrap_or(place))
 }
 
 /// Returns the place of the last call up to a place that sent a value to a channel, or changed it.
@@ -405,16 +382,9 @@ pub(super) fn last_sent(context: &Context<'_>, channel: u32, at: u64) -> u64 {
     if last <= at {
         return last;
     }
-    let places = (context.history.lead + 1..=at).rev();
-    let mut places = places.filter(|place| {
-        let entry = context.run.entry(*place);
-        let is_sent = matches!(
-            entry.reply,
-            Reply::Sent(_) | Reply::Stored | Reply::Old(_) | Reply::Told(1)
-        );
-        entry.channel == channel && is_sent
-    });
-    places.next().unwrap_or(0)
+    let behind_lead = (context.history.lead, at);
+    let sent = context.causes().last_sent(channel, behind_lead);
+    sent.unwrap_or(0)
 }
 
 /// Returns the line that names who could end a wait: the senders that are alive, or for `closed`
@@ -428,7 +398,7 @@ fn who_could_end(context: &Context<'_>, call: &WaitingCall, at: u64) -> Option<S
     });
     let named: Vec<_> = handles
         .map(|(number, _)| holder(context, channel, number))
-        .collect();
+        .listed();
     let what = if waits_for_receivers {
         "receivers"
     } else {

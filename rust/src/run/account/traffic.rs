@@ -5,6 +5,7 @@ use crate::run::journal::{
     self, ChannelValue, Counts, Findings, FoundTraffic, Loss, LossEnd, Run, TextFault,
     values_between, values_by,
 };
+use crate::run::listed::IntoList;
 use crate::run::sidecar::{ChannelWindow, Sidecar};
 
 /// The values of a channel, and the lives of its handles.
@@ -70,14 +71,14 @@ impl Traffic {
             lead: names.lead(),
             window: names.window_of(channel).cloned(),
         });
-        let channels: Vec<_> = channels.collect();
+        let channels: Vec<_> = channels.listed();
         let starts = findings.losses().iter().zip(findings.starts());
         let behind = starts.filter(|(loss, _)| is_behind(names.lead(), loss));
         let losses = behind.map(|(loss, start)| {
             let channel = &channels[loss.channel as usize];
             channel.found(loss, start.first, start.received)
         });
-        let losses = losses.collect();
+        let losses = losses.listed();
         Traffic { channels, losses }
     }
 

@@ -2,6 +2,7 @@
 
 use super::{Context, visible};
 use crate::core::source::rw_journal::MOST_ENTRIES;
+use crate::run::listed::IntoList;
 
 /// Returns why not all of the run is known, one reason for each line.
 pub(super) fn lines(context: &Context<'_>) -> Vec<String> {
@@ -24,10 +25,7 @@ pub(super) fn lines(context: &Context<'_>) -> Vec<String> {
     let channels = channels.into_iter().filter(|(count, _)| *count > 0);
     let channels = channels.map(|(count, what)| of_channels(count, what));
     let before = before_window(context).into_iter();
-    before
-        .chain(end_of_calls(context))
-        .chain(channels)
-        .collect()
+    before.chain(end_of_calls(context)).chain(channels).listed()
 }
 
 /// Says how many calls a window leaves out.

@@ -2,12 +2,12 @@
 //! why it was this one.
 
 use super::fact::{Fact, Role};
-use super::finding::orders;
 use super::marking::Marking;
 use super::reading::{self, ReadUpTo};
 use super::silence::last_sent;
 use super::{Context, visible};
 use crate::run::journal::{RunEntry, Spec};
+use crate::run::listed::IntoList;
 use crate::run::operation::Operation;
 use crate::run::reply::Reply;
 use crate::run::sidecar::Json;
@@ -45,30 +45,25 @@ pub(super) fn fact(context: &Context<'_>, place: u64) -> Fact {
     let calls = why.before_send.into_iter().chain(of_sent);
     let calls = calls.chain(why.behind_send);
     let steps = calls.map(|(place, role, said)| context.call_step(place, role, said.to_string()));
-    let mut steps: Vec<_> = steps.collect();
+    let mut steps: Vec<_> = steps.listed();
     let sent_step = steps.iter().rposition(|step| step.role == Role::Sent);
     steps.push(context.call_step(place, Role::Told, returned));
+    let members = vec![
+        ("channel", Json::number(entry.channel)),
+        ("receiver", Json::number(entry.handle)),
+        ("name", Json::text(&receiver.short)),
+        ("value", Json::number(value)),
+    ];
+    let head = format!(
+        "{} got {} of {}, {by}{}",
+        receiver.full,
+        naming.reply(&entry),
+        naming.channel(entry.channel),
+        why.text,
+    );
     Fact {
-        order: orders::LAST_VALUE,
-        kind: "value",
-        members: vec![
-            ("channel", Json::number(entry.channel)),
-            ("receiver", Json::number(entry.handle)),
-            ("name", Json::text(&receiver.short)),
-            ("value", Json::number(value)),
-        ],
-        head: format!(
-            "{} got {} of {}, {by}{}",
-            receiver.full,
-            naming.reply(&entry),
-            naming.channel(entry.channel),
-            why.text,
-        ),
-        sights: std::iter::once(steps.len() - 1).chain(sent_step).collect(),
-        look: place,
-        steps,
-        last: None,
-        late: vec![],
+        sights: std::iter::once(steps.len() - 1).chain(sent_step).listed(),
+        ..Fact::new("value", members, head, steps, place)
     }
 }
 

@@ -1,5 +1,6 @@
 //! Texts of a program's own, as a line of the account has them: on one line, and not too long.
 
+use crate::run::listed::IntoList;
 use crate::run::sidecar::SourceLocation;
 use std::fmt::Write;
 
@@ -96,7 +97,7 @@ pub(super) fn receivers(count: u64) -> String {
 }
 
 /// Returns which of several things one is, as `1st` or `22nd`.
-pub(super) fn nth(number: u64) -> String {
+pub(crate) fn nth(number: u64) -> String {
     let end = match (number % 10, number % 100) {
         (_, 11..=13) => "th",
         (1, _) => "st",
@@ -140,7 +141,7 @@ pub(crate) fn counted(count: u64, thing: &str) -> String {
 
 /// Returns a list of texts on one line. Of a long list it has the first three and the last.
 pub(super) fn list<T>(items: &[T], text: impl Fn(&T) -> String) -> String {
-    let texts = |items: &[T]| items.iter().map(&text).collect::<Vec<_>>().join(", ");
+    let texts = |items: &[T]| items.iter().map(&text).listed().join(", ");
     match items {
         [.., last] if items.len() > SHOWN_VALUES => {
             format!("{}, .. {}", texts(&items[..3]), text(last))

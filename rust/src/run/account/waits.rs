@@ -5,6 +5,7 @@ use super::finding::Finding;
 use super::silence::Silence;
 use super::window::{BEFORE, number_in_snapshots};
 use super::{Context, visible, woken};
+use crate::run::listed::IntoList;
 use crate::run::sidecar::{HeldBy, SourceLocation, WaitingCall};
 
 /// A call that waits.
@@ -57,7 +58,7 @@ pub(super) fn all(context: &Context<'_>, told: &[Finding]) -> Vec<WaitAtEnd> {
         is_told: is_told(index),
         ..wait(context, call)
     });
-    waits.collect()
+    waits.listed()
 }
 
 fn wait(context: &Context<'_>, call: &WaitingCall) -> WaitAtEnd {
@@ -121,5 +122,23 @@ fn held_by(context: &Context<'_>, by: HeldBy) -> String {
     match by.actor {
         Some(actor) => format!(", for a look taken{at} by {}", naming.actor(actor)),
         None => ", for the lock of the value".to_string(),
+    }
+}
+
+#[cfg(test)]
+mod tests {
+    use crate::run::account::tests::{account, heads};
+
+    #[test]
+    fn waits_on_channels_that_the_run_has_not_are_left_out() {
+        let sent = ["0 0 send 0 1 = sent 1"];
+        let wait = r#"[{"actor": 0, "channel": 9, "handle": 1, "call": "recv", "since": 1, "until": 1, "location": null}]"#;
+        let panic = r#""panics": [{"text": "timeout", "location": null, "actor": 0, "since": 1}]"#;
+        for kind in ["dropped_waits", "waiting", "waited_at_failure"] {
+            let names = format!(r#"{{"{kind}": {wait}, {panic}}}"#);
+            let found = account(&["broadcast 4"], &sent, &names);
+            assert_eq!(heads(&found), [""; 0], "{kind}");
+            assert!(found.waiting.is_empty(), "{kind}");
+        }
     }
 }

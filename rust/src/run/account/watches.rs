@@ -10,6 +10,7 @@ use super::history::HandleHistory;
 use super::lateness::{self, Late};
 use super::{Context, visible};
 use crate::run::journal::{Counts, Totals};
+use crate::run::listed::IntoList;
 use crate::run::sidecar::Json;
 use crate::run::sorting::sort_by_key;
 use std::cmp::Reverse;
@@ -63,13 +64,13 @@ pub(super) fn found(context: &Context<'_>) -> Vec<Overlooked> {
     let findings = context.findings;
     let totals = || findings.totals().iter().zip(findings.receipts());
     let learned = totals().filter_map(|totals| unlearned(context, totals));
-    let mut learned: Vec<_> = learned.collect();
+    let mut learned: Vec<_> = learned.listed();
     // The sorts are stable: others are in the order of channel and number.
     sort_by_key(&mut learned, |it| (it.use_of_it, Reverse(it.count)));
     let marked = totals().filter_map(|totals| unmarked(context, totals));
-    let mut marked: Vec<_> = marked.collect();
+    let mut marked: Vec<_> = marked.listed();
     sort_by_key(&mut marked, |it| Reverse(it.count));
-    learned.into_iter().chain(marked).collect()
+    learned.into_iter().chain(marked).listed()
 }
 
 /// Returns what became of a receiver.
@@ -170,24 +171,21 @@ pub(super) fn fact(context: &Context<'_>, overlooked: &Overlooked) -> Fact {
         }
     };
     let steps = steps(context, overlooked);
-    let mut sights: Vec<_> = (0..steps.len()).collect();
+    let mut sights: Vec<_> = (0..steps.len()).listed();
     sort_by_key(&mut sights, |index| steps[*index].role != Role::Change);
+    let members = vec![
+        ("channel", Json::number(channel)),
+        ("receiver", Json::number(receiver)),
+        ("name", Json::text(&called.short)),
+        ("changes", Json::number(count)),
+        ("of", Json::number(came)),
+    ];
+    let head = format!("{} {said}", called.full);
+    let look = sights.first().map_or(0, |first| steps[*first].place);
     Fact {
-        order: overlooked.order(),
-        kind,
-        members: vec![
-            ("channel", Json::number(channel)),
-            ("receiver", Json::number(receiver)),
-            ("name", Json::text(&called.short)),
-            ("changes", Json::number(count)),
-            ("of", Json::number(came)),
-        ],
-        head: format!("{} {said}", called.full),
-        look: sights.first().map_or(0, |first| steps[*first].place),
         sights,
-        steps,
-        last: None,
         late: late(context, overlooked),
+        ..Fact::new(kind, members, head, steps, look)
     }
 }
 
@@ -237,12 +235,12 @@ fn steps(context: &Context<'_>, overlooked: &Overlooked) -> Vec<FactStep> {
     let change = change.map(|value| (value.since, Role::Change));
     let known = change.into_iter().chain([(overlooked.look, Role::Look)]);
     let lead = context.history.lead;
-    let mut known: Vec<_> = known.filter(|(place, _)| *place > lead).collect();
+    let mut known: Vec<_> = known.filter(|(place, _)| *place > lead).listed();
     sort_by_key(&mut known, |(place, _)| *place);
     let steps = known.into_iter();
     steps
         .map(|(place, role)| step(context, place, role))
-        .collect()
+        .listed()
 }
 
 /// Returns a call with its value, and what it was to the receiver.

@@ -2,14 +2,14 @@
 //! was is what the names say, who have it from the proved list of who waits. Older names don't say
 //! it, and then a send to a call that waited for one is what woke it.
 
+mod causes;
+
+pub(super) use causes::Causes;
+
 use super::fact::{FactStep, Role};
-use super::history::HandleHistory;
 use super::{Context, visible};
 use crate::run::journal::Spec;
-use crate::run::reply::Reply;
 use crate::run::sidecar::WaitingCall;
-use crate::run::sorting::sort_by_key;
-use std::iter;
 
 /// What has woken a call.
 #[derive(Clone, Copy, Debug, PartialEq, Eq)]
@@ -72,22 +72,18 @@ pub(super) fn is_woken_somewhere(context: &Context<'_>, call: &WaitingCall) -> b
 
 /// Of a call that the names say was woken.
 fn by_names(context: &Context<'_>, call: &WaitingCall, until: u64) -> Option<Awakening> {
+    let causes = context.causes();
     let since = context.place_of(call.since);
+    let (channel, handle) = (call.channel as u32, call.handle as u32);
     if call.call == "closed" {
-        let receivers = |handle: &HandleHistory| handle.is_receiver;
-        return none_left(context, call, (since, until), receivers).map(Awakening::NoReceiver);
+        let closed = causes.no_receiver(channel, (since, until));
+        return closed.map(Awakening::NoReceiver);
     }
     // A `wait_for` may have looked in between, and waited on.
-    let (channel, handle) = (call.channel as u32, call.handle as u32);
-    let mut places = (since + 1..=until).rev();
-    let looked = places.find(|place| {
-        let entry = context.run.entry(*place);
-        (entry.channel, entry.handle) == (channel, handle)
-    });
+    let looked = causes.last_look((channel, handle), (since, until));
     let since = looked.unwrap_or(since);
-    let sent = first_sent(context, channel, (since, until));
-    let senders = |handle: &HandleHistory| !handle.is_receiver && !handle.is_weak;
-    let closed = none_left(context, call, (since, until), senders);
+    let sent = causes.first_sent(channel, (since, until));
+    let closed = causes.no_sender(channel, (since, until));
     match (sent, closed) {
         (Some(sent), Some(closed)) if closed < sent => Some(Awakening::NoSender(closed)),
         (Some(sent), _) => Some(Awakening::Sent(sent)),
@@ -103,46 +99,10 @@ fn by_run(context: &Context<'_>, call: &WaitingCall, until: u64) -> Option<Awake
         return None;
     }
     let since = context.place_of(call.since);
-    first_sent(context, call.channel as u32, (since, until)).map(Awakening::Sent)
-}
-
-/// Returns the first call between two places that sent a value to a channel, or changed it.
-fn first_sent(context: &Context<'_>, channel: u32, (after, until): (u64, u64)) -> Option<u64> {
-    let mut places = after + 1..=until;
-    places.find(|place| {
-        let entry = context.run.entry(*place);
-        let is_sent = matches!(
-            entry.reply,
-            Reply::Sent(_) | Reply::Stored | Reply::Old(_) | Reply::Told(1)
-        );
-        entry.channel == channel && is_sent
-    })
-}
-
-/// Returns the first place between two, at which none of these handles of a call's channel is alive
-/// any more.
-fn none_left(
-    context: &Context<'_>,
-    call: &WaitingCall,
-    (after, until): (u64, u64),
-    are_meant: impl Fn(&HandleHistory) -> bool,
-) -> Option<u64> {
-    let handles = context.history.channel(call.channel as u32).handles();
-    let meant = handles.filter(|(_, handle)| are_meant(handle));
-    let mut changes: Vec<(u64, i64)> = meant
-        .flat_map(|(_, handle)| {
-            let dropped = handle.dropped.map(|(place, _)| (place, -1));
-            iter::once((handle.made, 1)).chain(dropped)
-        })
-        .collect();
-    sort_by_key(&mut changes, |change| *change);
-    let mut alive = 0;
-    let mut places = changes.into_iter().map(|(place, change)| {
-        alive += change;
-        (place, alive)
-    });
-    let (place, _) = places.find(|(place, alive)| *place > after && *alive == 0)?;
-    (place <= until).then_some(place)
+    let sent = context
+        .causes()
+        .first_sent(call.channel as u32, (since, until));
+    sent.map(Awakening::Sent)
 }
 
 /// Says that a call which is told to wait was woken, and by what: its task or thread hasn't run
@@ -173,6 +133,7 @@ pub(super) fn said(context: &Context<'_>, call: &WaitingCall) -> Option<String> 
 mod tests {
     use crate::run::account::Account;
     use crate::run::account::tests::{account, assert_told, heads};
+    use crate::run::steps;
 
     #[test]
     fn a_call_that_has_something_to_receive_waits_for_its_turn() {
@@ -306,6 +267,16 @@ mod tests {
     }
 
     #[test]
+    fn a_weak_sender_is_none_that_is_left() {
+        let entries = ["0 0 downgrade 0 = new 2", "0 0 drop 0 = dropped"];
+        let run = ("broadcast 4", &entries[..]);
+        let found = found(run, ("recv", 1, 1), Some(true), None);
+        let by_drop = "which hasn't run since the last sender was dropped (call 2)";
+        let wanted = format!("actor 1 in `channel 0: recv` since call 1, {by_drop}");
+        assert_eq!(found.waiting[0].text, wanted);
+    }
+
+    #[test]
     fn a_fact_says_that_a_call_was_woken() {
         let sent = ["0 0 send 0 5 = sent 1", "0 0 send 0 6 = sent 1"];
         let run = ("broadcast 4", &sent[..]);
@@ -335,5 +306,37 @@ mod tests {
         let woken = found(("broadcast 4", &[]), ("recv", 1, 0), Some(true), None);
         let head = "`channel 0: recv` of actor 1 was woken: it was not polled since";
         assert_eq!(heads(&woken), [head]);
+    }
+
+    /// Reads the account of a run with so many receivers that wait since twenty times as many
+    /// calls, of which a send has woken all. Returns how many entries and handles that reads.
+    fn steps_of_woken(waits: u64) -> u64 {
+        let made = (1..waits).map(|number| format!("0 0 subscribe 0 = new {}", number + 1));
+        let calls = (0..20 * waits).map(|value| format!("0 1 send 0 {value} = sent 1"));
+        let sent = format!("0 0 send 0 7 = sent {waits}");
+        let entries: Vec<_> = made.chain(calls).chain([sent]).collect();
+        let entries: Vec<_> = entries.iter().map(String::as_str).collect();
+        let waiting = (1..=waits).map(|handle| {
+            format!(
+                r#"{{"actor": 1, "channel": 0, "handle": {handle}, "call": "recv", "since": {}, "location": null, "woken": true}}"#,
+                waits - 1
+            )
+        });
+        let waiting: Vec<_> = waiting.collect();
+        let names = format!(r#"{{"hangs": true, "waiting": [{}]}}"#, waiting.join(", "));
+        let channels = ["broadcast 4", "broadcast 1"];
+        let (found, steps) = steps::of(|| account(&channels, &entries, &names));
+        let came = format!("since a value came (call {})", entries.len());
+        let told = found.waiting.iter();
+        let told = told.filter(|wait| wait.text.ends_with(&came));
+        assert_eq!(told.count() as u64, waits);
+        steps
+    }
+
+    #[test]
+    fn what_woke_many_calls_is_found_in_steps_that_grow_as_the_run() {
+        // Beyond the facts that have words, which are told one by one.
+        let [some, twice] = [200, 400].map(steps_of_woken);
+        assert!(twice < 5 * some / 2, "{some} and {twice} steps");
     }
 }

@@ -6,8 +6,9 @@
 use super::recorded::Recorded;
 use super::{Channel, Condition, NoCondition, Walk};
 use crate::run::account::visible;
+use crate::run::by_text::TextMap;
+use crate::run::listed::IntoList;
 use crate::run::numbered::{NumberMap, NumberSet};
-use std::collections::BTreeMap;
 use std::fmt;
 use std::str::FromStr;
 
@@ -78,7 +79,7 @@ pub struct Entities {
     /// The only actor that made calls by each receiver without a name of its own, as far as that is
     /// known.
     users: NumberMap<(u32, u32), String>,
-    by_name: BTreeMap<String, Entity>,
+    by_name: TextMap<Entity>,
 }
 
 impl FromStr for NamedCondition {
@@ -223,16 +224,20 @@ impl Entities {
     ) -> Entities {
         let of_actors = actors
             .iter()
-            .map(|(actor, name)| (name.clone(), Entity::Actor(*actor)));
+            .map(|(actor, name)| (name, Entity::Actor(*actor)));
         let of_channels = (0..).zip(&channels);
-        let of_channels = of_channels.map(|(it, (name, _))| (name.clone(), Entity::Channel(it)));
+        let of_channels = of_channels.map(|(it, (name, _))| (name, Entity::Channel(it)));
         let of_receivers = receivers.iter().rev();
         let of_receivers = of_receivers.map(|((channel, handle), name)| {
             let receiver = Entity::Receiver(*channel, *handle);
-            (name.clone(), receiver)
+            (name, receiver)
         });
+        let mut by_name = TextMap::new();
+        for (name, entity) in of_actors.chain(of_channels).chain(of_receivers) {
+            by_name.insert(name, entity);
+        }
         Entities {
-            by_name: of_actors.chain(of_channels).chain(of_receivers).collect(),
+            by_name,
             channels,
             receivers,
             numbers: NumberMap::new(),
@@ -257,7 +262,7 @@ impl Entities {
 
     /// The names.
     pub fn names(&self) -> impl Iterator<Item = &str> {
-        self.by_name.keys().map(String::as_str)
+        self.by_name.keys()
     }
 
     /// Returns what a name stands for: a receiver, a channel, or an actor; or `channel0`, or the
@@ -370,20 +375,20 @@ impl Entities {
         let is_meant = |channel: u32| sort.is_of_channel(self.is_watch(channel));
         match sort {
             ConditionSubject::Reply => Vec::new(),
-            ConditionSubject::Actor => self.actors.values().cloned().collect(),
+            ConditionSubject::Actor => self.actors.values().cloned().listed(),
             ConditionSubject::Channel | ConditionSubject::Broadcast | ConditionSubject::Watch => {
                 (0..)
                     .zip(&self.channels)
                     .filter(|(channel, _)| is_meant(*channel))
                     .map(|(_, (name, _))| name.clone())
-                    .collect()
+                    .listed()
             }
             ConditionSubject::BroadcastReceiver | ConditionSubject::WatchReceiver => {
                 let meant = self.receivers.iter();
                 let meant = meant.filter(|((channel, _), _)| is_meant(*channel));
                 meant
                     .map(|((channel, handle), name)| self.name_of(*channel, *handle, name))
-                    .collect()
+                    .listed()
             }
         }
     }

@@ -3,6 +3,7 @@
 //! result without a place, so what has none is a notification.
 
 use crate::run::account::{Account, Fact, FactStep, Failed, WaitAtEnd};
+use crate::run::listed::{IntoList, PushAll};
 use crate::run::sidecar::{Json, SourceLocation};
 use std::env;
 use std::path::Path;
@@ -71,7 +72,7 @@ pub(crate) fn sarif(account: &Account) -> String {
         let base = Json::object(vec![("uri", Json::text(&uri_of_folder(base)))]);
         run.push(("originalUriBaseIds", Json::object(vec![(ROOT, base)])));
     }
-    run.extend(invocation(account));
+    run.push_all(invocation(account));
     run.push(("results", Json::List(places.results(account))));
     let log = Json::object(vec![
         ("$schema", Json::text(SCHEMA)),
@@ -125,7 +126,7 @@ fn invocation(account: &Account) -> Option<(&'static str, Json)> {
         .chain(facts)
         .chain(waits)
         .chain(tasks);
-    let notifications: Vec<_> = notifications.collect();
+    let notifications: Vec<_> = notifications.listed();
     let is_needed = !notifications.is_empty();
     let invocation = Json::object(vec![
         ("executionSuccessful", Json::Bool(true)),
@@ -175,7 +176,7 @@ impl Places {
         let facts = account.with_levels();
         let facts = facts.filter_map(|(level, fact)| self.fact(account, fact, level.word()));
         let waits = account.waiting.iter().filter_map(|it| self.wait(it));
-        failed.chain(facts).chain(waits).collect()
+        failed.chain(facts).chain(waits).listed()
     }
 
     fn failure(&self, failed: &Failed) -> Option<Json> {
@@ -193,7 +194,7 @@ impl Places {
         let text = fact.text();
         let steps = (1..).zip(&fact.steps);
         let steps = steps.map(|(order, step)| self.flow_location(order, step, &text[order]));
-        let thread = Json::object(vec![("locations", Json::List(steps.collect()))]);
+        let thread = Json::object(vec![("locations", Json::List(steps.listed()))]);
         let flow = Json::object(vec![("threadFlows", Json::List(vec![thread]))]);
         Some(self.result(fact.kind, level, &text.join("\n"), location, Some(flow)))
     }
@@ -215,7 +216,7 @@ impl Places {
             ("message", message(text)),
             ("locations", Json::List(vec![place])),
         ];
-        members.extend(flow.map(|flow| ("codeFlows", Json::List(vec![flow]))));
+        members.push_all(flow.map(|flow| ("codeFlows", Json::List(vec![flow]))));
         Json::object(members)
     }
 

@@ -1,9 +1,10 @@
 //! Lines of the sources, as rustc shows them: the line with the call, and below it what happened
 //! there. Where a source isn't there, or was written since, there is none.
 
+use crate::run::by_text::TextMap;
+use crate::run::listed::IntoList;
 use crate::run::sidecar::SourceLocation;
 use std::cell::RefCell;
-use std::collections::HashMap;
 use std::fs;
 use std::path::PathBuf;
 use std::time::SystemTime;
@@ -19,7 +20,7 @@ const SHOWN_BEFORE: usize = 60;
 pub(crate) struct SourceLines {
     root: PathBuf,
     before: SystemTime,
-    read: RefCell<HashMap<String, Option<String>>>,
+    read: RefCell<TextMap<Option<String>>>,
 }
 
 /// A line of a source, and where the call is in it.
@@ -51,7 +52,7 @@ impl SourceLines {
             (written <= self.before).then(|| fs::read_to_string(&path).ok())?
         };
         let mut all = self.read.borrow_mut();
-        let text = all.entry(location.file.clone()).or_insert_with(read);
+        let text = all.get_or_insert_with(&location.file, read);
         let line = text
             .as_ref()?
             .lines()
@@ -65,7 +66,7 @@ fn shown(line: &str, number: u32, column: u32) -> Option<SourceLine> {
     let line: Vec<_> = line
         .chars()
         .map(|c| if c == '\t' { ' ' } else { c })
-        .collect();
+        .listed();
     let at = column.checked_sub(1)? as usize;
     let is_of_name = |c: &&char| c.is_alphanumeric() || **c == '_';
     let name = line.get(at..)?.iter().take_while(is_of_name).count();

@@ -8,6 +8,7 @@ use crate::core::source::rw_findings::{Measure, Stretches, peaks_of};
 use crate::core::source::rw_handles::Kind;
 use crate::run::account::{Fact, FactStep, visible};
 use crate::run::journal::{Run, Spec};
+use crate::run::listed::{IntoList, PushAll};
 use crate::run::sidecar::{Json, Sidecar};
 
 /// From nothing to receive to all that the channel retains.
@@ -79,8 +80,8 @@ impl Strips<'_> {
         let name_width = widths.max()?;
         let stretches = self.stretches(fact, name_width);
         let (mut lines, has_lost) = self.rows(channel, &receivers, name_width, stretches)?;
-        lines.extend((more > 0).then(|| format!("  and {more} more")));
-        lines.extend(marks(fact, name_width, stretches));
+        lines.push_all((more > 0).then(|| format!("  and {more} more")));
+        lines.push_all(marks(fact, name_width, stretches));
         lines.push(self.caption(fact, (channel, has_lost), stretches));
         Some(lines)
     }
@@ -102,10 +103,10 @@ impl Strips<'_> {
                 dropped: life.dropped().unwrap_or(u64::MAX),
             })
             .filter(|receiver| receiver.dropped > self.names.lead())
-            .collect();
+            .listed();
         let told = number(fact, "receiver").or_else(|| number(fact, "handle"));
         match told.filter(|told| all.iter().any(|it| it.number == *told)) {
-            Some(told) => Some(all.into_iter().filter(|it| it.number == told).collect()),
+            Some(told) => Some(all.into_iter().filter(|it| it.number == told).listed()),
             None => Some(all),
         }
     }
@@ -183,7 +184,7 @@ impl Strips<'_> {
             let strip = self.coloured(strip.trim_end(), is_watch);
             format!("  {}{}  {strip}", receiver.name, " ".repeat(room))
         });
-        Some((rows.collect(), has_lost))
+        Some((rows.listed(), has_lost))
     }
 
     /// Returns the greatest level of a receiver: what the channel retains, or of a watch 1.
@@ -196,7 +197,7 @@ impl Strips<'_> {
 
     /// Puts the parts of a strip into their colours, which are those of the page.
     fn coloured(&self, strip: &str, is_watch: bool) -> String {
-        let cells: Vec<_> = strip.chars().collect();
+        let cells: Vec<_> = strip.chars().listed();
         let parts = cells.chunk_by(|left, right| Shade::of(*left) == Shade::of(*right));
         let coloured = parts.map(|part| {
             let text: String = part.iter().collect();
@@ -227,7 +228,7 @@ impl Strips<'_> {
             from if from == self.names.lead() => "before the window".to_string(),
             from => visible::call(from),
         };
-        let steps: Vec<_> = steps(fact, stretches).map(FactStep::name).collect();
+        let steps: Vec<_> = steps(fact, stretches).map(FactStep::name).listed();
         let marked = match &steps[..] {
             [] => String::new(),
             steps => format!("; ^ {}", steps.join(", ")),
@@ -261,7 +262,7 @@ fn steps(fact: &Fact, stretches: Stretches) -> impl Iterator<Item = &FactStep> {
 /// Returns a line with a mark below the column of each step, unless there is no step.
 fn marks(fact: &Fact, name_width: usize, stretches: Stretches) -> Option<String> {
     let columns = steps(fact, stretches).map(|step| (step.place - stretches.from) / stretches.each);
-    let columns: Vec<_> = columns.collect();
+    let columns: Vec<_> = columns.listed();
     let last = columns.iter().max()?;
     let mark = |column| if columns.contains(&column) { '^' } else { ' ' };
     let marks: String = (0..=*last).map(mark).collect();

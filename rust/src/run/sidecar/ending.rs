@@ -3,8 +3,8 @@
 
 use super::json::Json;
 use super::reading::{list, members, number, object, optional, optional_text, text_of};
-use super::{push_list, push_member, push_number, push_optional, push_string};
-use std::collections::BTreeMap;
+use super::{push_flag, push_items, push_number, push_optional, push_some, push_string};
+use crate::run::by_text::TextMap;
 use std::fmt::Write;
 
 /// The test that made a run.
@@ -91,7 +91,7 @@ pub(crate) struct Ending {
     /// The folder that the paths of sources are relative to.
     pub(crate) root: Option<String>,
     /// The checksum of each source file, by its path as the locations have it.
-    pub(crate) sources: BTreeMap<String, u64>,
+    pub(crate) sources: TextMap<u64>,
     /// The checksum of the journal's text.
     pub(crate) journal: Option<u64>,
 }
@@ -120,37 +120,19 @@ pub(crate) fn checksum(bytes: &[u8]) -> u64 {
 impl Ending {
     /// Appends the members of the document that aren't empty.
     pub(super) fn push(&self, out: &mut String) {
-        if let Some(test) = &self.test {
-            push_member(out, "test", |out| push_test(out, test));
-        }
-        if !self.panics.is_empty() {
-            push_member(out, "panics", |out| {
-                push_list(out, &self.panics, push_panic)
-            });
-        }
-        if let Some(panic) = &self.ended_by {
-            push_member(out, "ended_by", |out| push_number(out, panic));
-        }
-        if self.hangs {
-            push_member(out, "hangs", |out| out.push_str("true"));
-        }
-        if let Some(returned) = &self.returned {
-            push_member(out, "returned", |out| push_returned(out, returned));
-        }
-        if !self.unrecorded.is_nothing() {
-            push_member(out, "unrecorded", |out| {
-                push_unrecorded(out, &self.unrecorded)
-            });
-        }
-        if let Some(root) = &self.root {
-            push_member(out, "root", |out| push_string(out, root));
-        }
-        if !self.sources.is_empty() {
-            push_member(out, "sources", |out| push_sources(out, &self.sources));
-        }
-        if let Some(journal) = self.journal {
-            push_member(out, "journal", |out| push_checksum(out, journal));
-        }
+        push_some(out, "test", self.test.as_ref(), push_test);
+        push_items(out, "panics", &self.panics, push_panic);
+        push_some(out, "ended_by", self.ended_by.as_ref(), push_number);
+        push_flag(out, "hangs", self.hangs);
+        push_some(out, "returned", self.returned.as_ref(), push_returned);
+        let unrecorded = Some(&self.unrecorded).filter(|it| !it.is_nothing());
+        push_some(out, "unrecorded", unrecorded, push_unrecorded);
+        push_some(out, "root", self.root.as_ref(), push_string);
+        let sources = Some(&self.sources).filter(|it| !it.is_empty());
+        push_some(out, "sources", sources, push_sources);
+        push_some(out, "journal", self.journal.as_ref(), |out, journal| {
+            push_checksum(out, *journal)
+        });
     }
 
     /// Reads a member of the document, if it is one of these. Returns `false` if it is another.
@@ -238,7 +220,7 @@ fn push_unrecorded(out: &mut String, unrecorded: &Unrecorded) {
     );
 }
 
-fn push_sources(out: &mut String, sources: &BTreeMap<String, u64>) {
+fn push_sources(out: &mut String, sources: &TextMap<u64>) {
     out.push('{');
     for (index, (path, sum)) in sources.iter().enumerate() {
         out.push_str(if index > 0 { ", " } else { "" });
@@ -303,11 +285,12 @@ fn unrecorded(value: Json) -> Result<Unrecorded, String> {
     })
 }
 
-fn sources(value: Json) -> Result<BTreeMap<String, u64>, String> {
-    let members = object(value)?.into_iter();
-    members
-        .map(|(path, sum)| Ok((path, read_checksum(sum)?)))
-        .collect()
+fn sources(value: Json) -> Result<TextMap<u64>, String> {
+    let mut sources = TextMap::new();
+    for (path, sum) in object(value)? {
+        sources.insert(&path, read_checksum(sum)?);
+    }
+    Ok(sources)
 }
 
 #[cfg(test)]

@@ -1,9 +1,8 @@
 //! A small reader and writer of JSON. The crate has no dependencies.
 
 use super::push_string;
+use crate::run::listed::IntoList;
 use std::fmt::Display;
-use std::iter::Peekable;
-use std::str::Chars;
 
 /// How deep lists and objects may be nested. Files of names need four.
 const DEEPEST: usize = 32;
@@ -73,7 +72,7 @@ impl Json {
         Json::Object(
             members
                 .map(|(key, value)| (key.to_string(), value))
-                .collect(),
+                .listed(),
         )
     }
 
@@ -111,43 +110,71 @@ fn push_members(out: &mut String, members: &[(String, Json)]) {
 #[doc(hidden)]
 pub fn read(text: &str) -> Result<Json, String> {
     let mut reader = JsonReader {
-        chars: text.chars().peekable(),
+        rest: text,
         line: 1,
     };
-    let document = reader.value(0).and_then(|value| {
-        reader.skip_spaces();
-        match reader.chars.peek() {
-            None => Ok(value),
-            Some(_) => Err("something follows the document".to_string()),
-        }
-    });
-    document.map_err(|fault| format!("line {}: {fault}", reader.line))
+    let document = reader.value(0);
+    let whole = document.and_then(|value| reader.end().map(|()| value));
+    whole.map_err(|fault| format!("line {}: {fault}", reader.line))
 }
 
-struct JsonReader<'a> {
-    chars: Peekable<Chars<'a>>,
+/// Reads a document that is an object. Each of its members is read by `member`, so that not all of
+/// them have to be there at once. It is given the key.
+///
+/// # Errors
+///
+/// Returns what is wrong with the document, or what `member` returns.
+pub(super) fn read_members<'a>(
+    text: &'a str,
+    member: impl FnMut(&mut JsonReader<'a>, String) -> Result<(), String>,
+) -> Result<(), String> {
+    let mut reader = JsonReader {
+        rest: text,
+        line: 1,
+    };
+    reader.members(member)?;
+    reader.end()
+}
+
+/// Reads a document from its beginning to its end.
+pub(super) struct JsonReader<'a> {
+    rest: &'a str,
     line: usize,
 }
 
 impl JsonReader<'_> {
+    fn peek(&self) -> Option<char> {
+        self.rest.chars().next()
+    }
+
     fn next(&mut self) -> Result<char, String> {
-        let next = self.chars.next().ok_or("it ends too early")?;
+        let next = self.peek().ok_or("it ends too early")?;
+        self.rest = &self.rest[next.len_utf8()..];
         self.line += usize::from(next == '\n');
         Ok(next)
     }
 
     fn skip_spaces(&mut self) {
-        while let Some(' ' | '\t' | '\r' | '\n') = self.chars.peek() {
+        while let Some(' ' | '\t' | '\r' | '\n') = self.peek() {
             let _ = self.next();
+        }
+    }
+
+    /// Reads what is left of a document behind its value: nothing.
+    fn end(&mut self) -> Result<(), String> {
+        self.skip_spaces();
+        match self.peek() {
+            None => Ok(()),
+            Some(_) => Err("something follows the document".to_string()),
         }
     }
 
     /// Reads this character, after spaces. Returns whether it comes next.
     fn reads(&mut self, wanted: char) -> bool {
         self.skip_spaces();
-        let comes = self.chars.peek() == Some(&wanted);
+        let comes = self.peek() == Some(wanted);
         if comes {
-            self.chars.next();
+            let _ = self.next();
         }
         comes
     }
@@ -160,12 +187,13 @@ impl JsonReader<'_> {
         }
     }
 
-    fn value(&mut self, depth: usize) -> Result<Json, String> {
+    /// Reads a value that is in so many lists and objects.
+    pub(super) fn value(&mut self, depth: usize) -> Result<Json, String> {
         if depth > DEEPEST {
             return Err("it is nested too deep".to_string());
         }
         self.skip_spaces();
-        match self.chars.peek().copied() {
+        match self.peek() {
             Some('{') => self.object(depth),
             Some('[') => self.list(depth),
             Some('"') => self.text().map(Json::Text),
@@ -177,35 +205,67 @@ impl JsonReader<'_> {
     }
 
     fn object(&mut self, depth: usize) -> Result<Json, String> {
-        self.expect('{')?;
         let mut members = vec![];
+        self.members(|reader, key| {
+            members.push((key, reader.value(depth + 1)?));
+            Ok(())
+        })?;
+        Ok(Json::Object(members))
+    }
+
+    /// Reads an object. Each of its members is read by `member`, which is given the key.
+    pub(super) fn members(
+        &mut self,
+        mut member: impl FnMut(&mut Self, String) -> Result<(), String>,
+    ) -> Result<(), String> {
+        self.expect('{')?;
         if self.reads('}') {
-            return Ok(Json::Object(members));
+            return Ok(());
         }
         loop {
             self.skip_spaces();
             let key = self.text()?;
             self.expect(':')?;
-            members.push((key, self.value(depth + 1)?));
+            member(self, key)?;
             if !self.reads(',') {
-                self.expect('}')?;
-                return Ok(Json::Object(members));
+                return self.expect('}');
             }
         }
     }
 
     fn list(&mut self, depth: usize) -> Result<Json, String> {
-        self.expect('[')?;
         let mut items = vec![];
+        self.items(|reader| {
+            items.push(reader.value(depth + 1)?);
+            Ok(())
+        })?;
+        Ok(Json::List(items))
+    }
+
+    /// Reads a list. Each of its items is read by `item`.
+    pub(super) fn items(
+        &mut self,
+        mut item: impl FnMut(&mut Self) -> Result<(), String>,
+    ) -> Result<(), String> {
+        self.expect('[')?;
         if self.reads(']') {
-            return Ok(Json::List(items));
+            return Ok(());
         }
         loop {
-            items.push(self.value(depth + 1)?);
+            item(self)?;
             if !self.reads(',') {
-                self.expect(']')?;
-                return Ok(Json::List(items));
+                return self.expect(']');
             }
+        }
+    }
+
+    /// Reads a value that is in so many lists and objects, and keeps nothing of it.
+    pub(super) fn pass(&mut self, depth: usize) -> Result<(), String> {
+        self.skip_spaces();
+        match self.peek() {
+            Some('{') if depth <= DEEPEST => self.members(|reader, _| reader.pass(depth + 1)),
+            Some('[') if depth <= DEEPEST => self.items(|reader| reader.pass(depth + 1)),
+            _ => self.value(depth).map(drop),
         }
     }
 
@@ -213,13 +273,22 @@ impl JsonReader<'_> {
         self.expect('"')?;
         let mut text = String::new();
         loop {
+            text.push_str(self.plain_part());
             match self.next()? {
                 '"' => return Ok(text),
                 '\\' => text.push(self.escaped()?),
-                c if c < ' ' => return Err("a text has a control character".to_string()),
-                c => text.push(c),
+                _ => return Err("a text has a control character".to_string()),
             }
         }
+    }
+
+    /// Reads the characters of a text before its end, an escape or a control character.
+    fn plain_part(&mut self) -> &str {
+        let mut bytes = self.rest.bytes();
+        let end = bytes.position(|byte| matches!(byte, b'"' | b'\\' | 0..b' '));
+        let (part, rest) = self.rest.split_at(end.unwrap_or(self.rest.len()));
+        self.rest = rest;
+        part
     }
 
     /// Reads what follows a backslash.
@@ -260,12 +329,10 @@ impl JsonReader<'_> {
 
     /// Reads a number or a constant, up to a character that neither has.
     fn word(&mut self) -> String {
-        let mut word = String::new();
-        while let Some(c) = self.chars.peek().filter(|c| is_part_of_word(**c)) {
-            word.push(*c);
-            self.chars.next();
-        }
-        word
+        let end = self.rest.find(|c| !is_part_of_word(c));
+        let (word, rest) = self.rest.split_at(end.unwrap_or(self.rest.len()));
+        self.rest = rest;
+        word.to_string()
     }
 
     fn constant(&mut self) -> Result<Json, String> {

@@ -3,7 +3,8 @@
 
 use super::json::Json;
 use super::reading::{by_number, list, number, optional_text};
-use super::{push_list, push_member, push_number, push_object, push_string};
+use super::{push_flag, push_items, push_list, push_map, push_number, push_string};
+use crate::run::listed::IntoList;
 use crate::run::numbered::{NumberMap, NumberSet};
 
 /// Who has made a channel, and how many channels of its run they had made before.
@@ -43,22 +44,16 @@ impl Matching {
 
     /// Appends the members of the document that aren't empty.
     pub(super) fn push(&self, out: &mut String) {
-        if !self.made_by.is_empty() {
-            push_member(out, "made_by", |out| {
-                push_object(out, &self.made_by, push_maker)
+        push_map(out, "made_by", &self.made_by, push_maker);
+        let unnamed: Vec<_> = self.unnamed.iter().listed();
+        push_items(out, "unnamed", &unnamed, push_number);
+        for (key, entries) in [("waited", &self.waited), ("cancelled", &self.cancelled)] {
+            push_map(out, key, entries, |out, entries| {
+                push_list(out, entries, push_number)
             });
         }
-        if !self.unnamed.is_empty() {
-            let unnamed: Vec<_> = self.unnamed.iter().collect();
-            push_member(out, "unnamed", |out| push_list(out, &unnamed, push_number));
-        }
-        push_entries(out, "waited", &self.waited);
-        push_entries(out, "cancelled", &self.cancelled);
-        for (key, is_so) in [("quiet", self.is_quiet), ("failed", self.has_failed)] {
-            if is_so {
-                push_member(out, key, |out| out.push_str("true"));
-            }
-        }
+        push_flag(out, "quiet", self.is_quiet);
+        push_flag(out, "failed", self.has_failed);
     }
 
     /// Reads a member of the document, if it is one of these.
@@ -73,17 +68,6 @@ impl Matching {
             _ => (),
         }
         Ok(())
-    }
-}
-
-/// Appends some entries of each channel, unless there are none.
-fn push_entries(out: &mut String, key: &str, entries: &NumberMap<u64, Vec<u64>>) {
-    if !entries.is_empty() {
-        push_member(out, key, |out| {
-            push_object(out, entries, |out, entries| {
-                push_list(out, entries, push_number)
-            });
-        });
     }
 }
 

@@ -1,7 +1,7 @@
 //! Reads a file of names, of this version or an earlier one. What a reader doesn't know is left
 //! out.
 
-use super::json::{self, Json};
+use super::json::{self, Json, JsonReader};
 use super::{HeldBy, Sidecar, SourceLocation, VERSION_OF_TASKS, WaitingCall, tasks_seen, window};
 use crate::run::numbered::NumberMap;
 
@@ -23,6 +23,28 @@ impl Sidecar {
     ///
     /// Returns what is wrong with the text as a whole, or what the reader returns.
     pub(crate) fn read_or(
+        text: &str,
+        leave: impl Fn(&str, String) -> Result<(), String>,
+    ) -> Result<Sidecar, String> {
+        Sidecar::by_members(text).or_else(|_| Sidecar::of_document(text, leave))
+    }
+
+    /// Reads a text that has no fault. The texts of values, the places of calls and the account are
+    /// the most of a long run's names. As values of JSON they would take several times their bytes.
+    fn by_members(text: &str) -> Result<Sidecar, String> {
+        let mut names = Sidecar::default();
+        json::read_members(text, |reader, key| match key.as_str() {
+            "values" => numbered(reader, |reader| numbered(reader, next_text))
+                .map(|values| names.values = values),
+            "calls" => numbered(reader, next_indexes).map(|calls| names.calls = calls),
+            "account" => reader.pass(1),
+            key => names.read_key(key, reader.value(1)?),
+        })?;
+        Ok(names)
+    }
+
+    /// Reads any text. Which fault it has is known once all of it is read.
+    fn of_document(
         text: &str,
         leave: impl Fn(&str, String) -> Result<(), String>,
     ) -> Result<Sidecar, String> {
@@ -149,6 +171,35 @@ pub(super) fn by_number<T>(
     numbered.collect()
 }
 
+/// Reads the next value of a document as such an object. `item` reads each of its items.
+fn numbered<T>(
+    reader: &mut JsonReader<'_>,
+    item: impl Fn(&mut JsonReader<'_>) -> Result<T, String>,
+) -> Result<NumberMap<u64, T>, String> {
+    let mut items = vec![];
+    reader.members(|reader, key| {
+        let number = key.parse().map_err(|_| format!("`{key}` is no number"))?;
+        items.push((number, item(reader)?));
+        Ok(())
+    })?;
+    Ok(items.into_iter().collect())
+}
+
+/// Reads the next value of a document as a text.
+fn next_text(reader: &mut JsonReader<'_>) -> Result<String, String> {
+    text_of(reader.value(3)?)
+}
+
+/// Reads it as a list of numbers, some of which may be null.
+fn next_indexes(reader: &mut JsonReader<'_>) -> Result<Vec<Option<usize>>, String> {
+    let mut indexes = vec![];
+    reader.items(|reader| {
+        indexes.push(optional(reader.value(3)?)?);
+        Ok(())
+    })?;
+    Ok(indexes)
+}
+
 fn texts(value: Json) -> Result<NumberMap<u64, String>, String> {
     by_number(value, text_of)
 }
@@ -266,18 +317,14 @@ mod tests {
             tasks: NumberMap::from([(3, 1)]),
             waiting: vec![WaitingCall {
                 actor: 3,
-                channel: 0,
                 handle: 1,
                 call: "recv".to_string(),
                 since: 12,
-                location: None,
                 held_by: Some(HeldBy {
                     actor: Some(0),
                     location: Some(1),
                 }),
-                woken: None,
-                until: None,
-                waited: None,
+                ..WaitingCall::default()
             }],
             waited_at_failure: vec![WaitingCall {
                 actor: 2,
@@ -285,29 +332,47 @@ mod tests {
                 handle: 4,
                 call: "closed".to_string(),
                 since: 5,
-                location: None,
-                held_by: None,
                 woken: Some(true),
-                until: None,
-                waited: None,
+                ..WaitingCall::default()
             }],
             dropped_at: NumberMap::from([(0, NumberMap::from([(1, 0)]))]),
             dropped_in: NumberMap::from([(0, NumberMap::from([(1, "shop::read".to_string())]))]),
             dropped_waits: vec![WaitingCall {
                 actor: 3,
-                channel: 0,
                 handle: 1,
                 call: "recv".to_string(),
                 since: 2,
                 location: Some(0),
-                held_by: None,
-                woken: None,
                 until: Some(4),
                 waited: Some(30_012),
+                ..WaitingCall::default()
             }],
             ..Sidecar::default()
         };
         assert_eq!(names, wanted);
+    }
+
+    #[test]
+    fn what_is_read_by_members_is_what_is_read_of_the_whole_document() {
+        let text = r#" {"version": 3, "values": {"0": {"1": "a\n", "0": "é"}, "2": {}, "0": {"7": "b"}},
+            "calls": {"1": [0, null], "0": []}, "actors": {"3": "x"}, "account": {"a": [1, [], {}, "\u00e9"]}, "later": [{"values": 1}], "failed": true}"#;
+        let starts = text.char_indices().map(|(at, _)| at);
+        let cuts = starts.clone().map(|at| text[..at].to_string());
+        let changed = starts.flat_map(|at| {
+            let next = text[at..].chars().next().map_or(0, char::len_utf8);
+            let with = [
+                "", "\"", "\\", "{", "}", "[", "]", ",", ":", " ", "0", "-", "\n", "n",
+            ];
+            with.map(|it| format!("{}{it}{}", &text[..at], &text[at + next..]))
+        });
+        let mut read = 0;
+        for text in [text.to_string()].into_iter().chain(cuts).chain(changed) {
+            let by_members = Sidecar::by_members(&text).ok();
+            let of_document = Sidecar::of_document(&text, |_, fault| Err(fault)).ok();
+            assert_eq!(by_members, of_document, "{text}");
+            read += u32::from(by_members.is_some());
+        }
+        assert!(read > 100, "{read} were read");
     }
 
     #[test]

@@ -1,7 +1,8 @@
 //! The sources that the locations name.
 
 use super::{Sidecar, SourceLocation, checksum};
-use std::collections::BTreeSet;
+use crate::run::by_text::TextSet;
+use crate::run::listed::IntoList;
 use std::fs;
 use std::path::{Path, PathBuf};
 
@@ -40,18 +41,19 @@ impl Sidecar {
     /// Adds the folder that the paths of sources are relative to, and the checksums of those that
     /// can be read below it. The folder is what this returns for these paths.
     pub(crate) fn add_sources(&mut self, root_of: impl FnOnce(&[&Path]) -> Option<PathBuf>) {
-        let files: BTreeSet<_> = self.locations.iter().map(|at| at.file.as_str()).collect();
-        let paths: Vec<_> = files.iter().map(Path::new).collect();
+        let mut files = TextSet::new();
+        files.extend(self.locations.iter().map(|at| &at.file));
+        let paths: Vec<_> = files.iter().map(Path::new).listed();
         let Some(root) = root_of(&paths) else {
             return;
         };
         let mut left = MOST_BYTES;
-        let read = files.into_iter().take(MOST_SOURCES).filter_map(|file| {
-            let text = read_below(&root, file, left)?;
-            left -= text.len() as u64;
-            Some((file.to_string(), checksum(&text)))
-        });
-        self.ending.sources = read.collect();
+        for file in files.iter().take(MOST_SOURCES) {
+            if let Some(text) = read_below(&root, file, left) {
+                left -= text.len() as u64;
+                self.ending.sources.insert(file, checksum(&text));
+            }
+        }
         self.ending.root = Some(root.to_string_lossy().into_owned());
     }
 }

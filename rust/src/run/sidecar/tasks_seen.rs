@@ -3,6 +3,7 @@
 use super::json::Json;
 use super::reading::{list, members, number, optional, optional_text, text_of};
 use super::{push_list, push_member, push_optional, push_string};
+use crate::run::listed::IntoList;
 use std::fmt::Write;
 
 /// What was seen of the tasks of a test.
@@ -159,9 +160,9 @@ impl TasksSeen {
                 spans.iter().any(|span| from <= span.1 && span.0 <= to)
             };
             let count = task.polls.len();
-            let within: Vec<_> = (0..count).map(is_within).collect();
+            let within: Vec<_> = (0..count).map(is_within).listed();
             let stays = |index: usize| within[index] || index + 2 >= count || within[index + 1];
-            let stays: Vec<_> = (0..count).map(stays).collect();
+            let stays: Vec<_> = (0..count).map(stays).listed();
             let mut stays = stays.into_iter();
             task.polls.retain(|_| stays.next() == Some(true));
         }

@@ -4,7 +4,7 @@
 use super::json::Json;
 use super::reading::{by_number, list, members, number, optional, optional_text, text_of};
 use super::{
-    Sidecar, push_list, push_member, push_number, push_object, push_optional, push_string,
+    Sidecar, push_items, push_list, push_number, push_object, push_optional, push_some, push_string,
 };
 use crate::run::clock::Moment;
 use crate::run::numbered::NumberMap;
@@ -76,16 +76,12 @@ impl Sidecar {
 
 /// Appends the window and the times, unless there are none.
 pub(super) fn push(out: &mut String, window: Option<&WindowNames>, times: &[Moment]) {
-    if let Some(window) = window {
-        push_member(out, "window", |out| {
-            out.push('{');
-            window.push_members(out);
-            out.push('}');
-        });
-    }
-    if !times.is_empty() {
-        push_member(out, "times", |out| push_list(out, times, push_moment));
-    }
+    push_some(out, "window", window, |out, window| {
+        out.push('{');
+        window.push_members(out);
+        out.push('}');
+    });
+    push_items(out, "times", times, push_moment);
 }
 
 impl WindowNames {

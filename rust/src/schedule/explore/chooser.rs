@@ -5,7 +5,9 @@ use super::guide::Guide;
 use super::order::{Order, OrderKind};
 use super::random::{Random, hashed};
 use super::schedule::{Schedule, Step, What};
-use std::collections::HashMap;
+use crate::run::by_text::TextMap;
+use crate::run::listed::IntoList;
+use crate::run::numbered::NumberMap;
 use std::io;
 use std::sync::Arc;
 
@@ -27,7 +29,7 @@ pub(super) enum Chooser {
     Pct(Pct),
     Pos {
         random: Random,
-        priorities: HashMap<u64, u64>,
+        priorities: NumberMap<u64, u64>,
     },
     Guided(Guide),
     Follow(Follow),
@@ -50,7 +52,7 @@ impl Chooser {
             OrderKind::Pct { depth, seed, steps } => Chooser::Pct(Pct::new(*depth, *seed, *steps)),
             OrderKind::Pos(seed) => Chooser::Pos {
                 random: Random::new(*seed),
-                priorities: HashMap::new(),
+                priorities: NumberMap::new(),
             },
             OrderKind::Guided { seed, steps } => {
                 let guide = Guide::new(*seed, *steps);
@@ -92,14 +94,14 @@ impl Chooser {
 /// matters, get new ones.
 fn by_sampling(
     random: &mut Random,
-    priorities: &mut HashMap<u64, u64>,
+    priorities: &mut NumberMap<u64, u64>,
     candidates: &[Candidate],
 ) -> usize {
     let mut of = |candidate: &Candidate| {
         let fresh = random.next();
-        *priorities.entry(candidate.number).or_insert(fresh)
+        *priorities.get_or_insert_with(candidate.number, || fresh)
     };
-    let all: Vec<u64> = candidates.iter().map(&mut of).collect();
+    let all: Vec<u64> = candidates.iter().map(&mut of).listed();
     let best = (0..all.len()).max_by_key(|index| all[*index]).unwrap_or(0);
     let channel = |what: &What| match what {
         What::Call { channel, .. } => Some(*channel),
@@ -121,7 +123,7 @@ pub(super) struct Pct {
     seed: u64,
     /// At which choices the one who would go gets this low priority.
     changes: Vec<(u32, u64)>,
-    lowered: HashMap<Arc<str>, u64>,
+    lowered: TextMap<u64>,
     choices: u32,
 }
 
@@ -132,8 +134,8 @@ impl Pct {
         Pct {
             depth,
             seed,
-            changes: (1..u64::from(depth)).map(|low| (at(), low)).collect(),
-            lowered: HashMap::new(),
+            changes: (1..u64::from(depth)).map(|low| (at(), low)).listed(),
+            lowered: TextMap::new(),
             choices: 0,
         }
     }
@@ -146,7 +148,7 @@ impl Pct {
         let change = self.changes.iter().find(|(at, _)| *at == self.choices);
         if let Some((_, low)) = change.copied() {
             let first = self.best(candidates);
-            self.lowered.insert(candidates[first].who.clone(), low);
+            self.lowered.insert(&candidates[first].who, low);
         }
         self.best(candidates)
     }
@@ -275,15 +277,7 @@ mod tests {
     #[test]
     fn a_schedule_is_followed_as_far_as_its_callers_come() {
         let steps = |who: &[&str]| {
-            let step = |who: &&str| Step {
-                chosen: 0,
-                count: 2,
-                turn: Turn::Free,
-                what: What::Poll,
-                at: None,
-                waited_for: None,
-                who: (*who).into(),
-            };
+            let step = |who: &&str| Step::poll_of(who, Turn::Free);
             who.iter().map(step).collect()
         };
         let mut follow = Follow::new(steps(&["b", "a", "b"]));

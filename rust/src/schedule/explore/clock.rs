@@ -3,7 +3,8 @@
 //! stands still, so that no timer ends since a run is slow.
 
 use super::threads::SOON;
-use std::collections::HashMap;
+use crate::run::listed::IntoList;
+use crate::run::sorting::sort_by_key;
 use std::mem;
 use std::task::Waker;
 use std::time::{Duration, Instant};
@@ -29,8 +30,9 @@ pub(super) struct TestClock {
     chosen: Duration,
     timers: Vec<SetTimer>,
     next_number: u64,
-    /// When deadlines come by this clock, which were seen before. They are of the machine's clock.
-    deadlines: HashMap<Instant, Duration>,
+    /// When deadlines come by this clock, which were seen before. They are of the machine's clock,
+    /// and in its order.
+    deadlines: Vec<(Instant, Duration)>,
     /// Since when everybody waits, and after how many moves.
     waits_since: Option<(u64, Instant)>,
     /// How long a thread has run since this move, as far as that is counted.
@@ -68,7 +70,13 @@ impl TestClock {
         if self.deadlines.len() >= DEADLINES_KEPT {
             self.deadlines.clear();
         }
-        *self.deadlines.entry(deadline).or_insert(self.now + left)
+        let found = (self.deadlines).binary_search_by(|(known, _)| known.cmp(&deadline));
+        let place = found.unwrap_or_else(|place| {
+            self.deadlines.insert(place, (deadline, self.now + left));
+            place
+        });
+        let (_, due) = self.deadlines[place];
+        due
     }
 
     /// Sets a timer, and returns its number.
@@ -166,18 +174,18 @@ impl TestClock {
     /// Takes the wakers of those timers that have ended.
     pub(super) fn ended(&mut self) -> Vec<Waker> {
         let now = self.now;
-        let mut due: Vec<&mut SetTimer> = self.timers.iter_mut().collect();
+        let mut due: Vec<&mut SetTimer> = self.timers.iter_mut().listed();
         due.retain(|timer| timer.due <= now && timer.waker.is_some());
-        due.sort_by_key(|timer| (timer.due, timer.number));
+        sort_by_key(&mut due, |timer| (timer.due, timer.number));
         due.into_iter()
             .filter_map(|timer| timer.waker.take())
-            .collect()
+            .listed()
     }
 
     /// Takes the wakers of all timers, which end by another clock from now on.
     pub(super) fn leave(&mut self) -> Vec<Waker> {
         let timers = mem::take(&mut self.timers);
-        timers.into_iter().filter_map(|timer| timer.waker).collect()
+        timers.into_iter().filter_map(|timer| timer.waker).listed()
     }
 }
 

@@ -16,6 +16,7 @@ use crate::channels::actors::{self, is_in_task, last_task, note_facade, set_last
 use crate::channels::timers::Timers;
 use crate::channels::turns::{ArrivingCall, Tasks, TestEnd, Ticket, Turns};
 use crate::channels::whereabouts::{PlaceNumber, current_place};
+use crate::run::listed::PushAll;
 use crate::run::operation::CallSet;
 use crate::run::sidecar::Maker;
 use crate::schedule::entrance::Entrance;
@@ -173,10 +174,10 @@ impl Explorer {
         self.entrance.open();
         for stand in &mut state.stands {
             stand.own.notify_all();
-            state.wakers.extend(stand.waker.take());
+            state.wakers.push_all(stand.waker.take());
         }
         let of_timers = state.clock.leave();
-        state.wakers.extend(of_timers);
+        state.wakers.push_all(of_timers);
         state.stands.retain(Stand::is_blocking);
         self.entrance.helper.notify_all();
     }
@@ -270,7 +271,7 @@ impl Tasks for Explorer {
     fn waits(&self, task: &Arc<str>, at: PlaceNumber) {
         if !self.entrance.is_over() {
             let mut state = self.entrance.enter();
-            state.wait_places.now.insert(task.clone(), at);
+            state.wait_places.now.insert(task, at);
         }
     }
 

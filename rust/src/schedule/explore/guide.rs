@@ -10,10 +10,12 @@ use super::random::{Random, hashed};
 use super::run;
 use super::schedule::What;
 use crate::channels::channel::Known;
+use crate::run::by_text::TextMap;
 use crate::run::debugger::named::{ConditionSubject, NamedCondition};
+use crate::run::listed::IntoList;
+use crate::run::numbered::NumberSet;
 use crate::run::operation::Operation;
 use call::StandingCall;
-use std::collections::{HashMap, HashSet};
 use std::sync::Arc;
 
 /// What it is to the condition that one goes on.
@@ -42,9 +44,9 @@ pub(super) struct Guide {
     /// Whether of those who do as well the same one always goes first, and not one by chance.
     has_favourites: bool,
     /// What each caller was seen to do.
-    habits: HashMap<Arc<str>, Habit>,
+    habits: TextMap<Habit>,
     /// The receivers by which the caller of the condition's name receives.
-    read_by_name: HashSet<(u32, u32)>,
+    read_by_name: NumberSet<(u32, u32)>,
 }
 
 #[derive(Clone, Copy, Default)]
@@ -71,8 +73,8 @@ impl Guide {
             by_chance: if seed % 4 == 3 { 8 } else { 0 },
             at_first: if seed % 4 == 2 { at_first } else { 0 },
             has_favourites: seed % 2 == 1,
-            habits: HashMap::new(),
-            read_by_name: HashSet::new(),
+            habits: TextMap::new(),
+            read_by_name: NumberSet::new(),
         }
     }
 
@@ -81,11 +83,10 @@ impl Guide {
         let effects: Vec<Effect> = candidates
             .iter()
             .map(|candidate| self.effect(candidate, &channels))
-            .collect();
+            .listed();
         let chosen = self.one_of(candidates, &effects);
         if matches!(candidates[chosen].what, What::Call { .. }) {
-            let habit = self.habits.entry(candidates[chosen].who.clone());
-            let habit = habit.or_default();
+            let habit = self.habits.get_or_default(&candidates[chosen].who);
             habit.leads_nearer |= effects[chosen] == Effect::Nearer;
             habit.leads_away |= effects[chosen] == Effect::Away;
         }
@@ -103,7 +104,7 @@ impl Guide {
         }
         let best = effects.iter().max().copied().unwrap_or(Effect::None);
         let of_best = (0..effects.len()).filter(|index| effects[*index] == best);
-        let of_best: Vec<usize> = of_best.collect();
+        let of_best: Vec<usize> = of_best.listed();
         let by_priority = || {
             let priority = |index: &&usize| hashed(self.seed, &candidates[**index].who);
             of_best.iter().max_by_key(priority).copied()

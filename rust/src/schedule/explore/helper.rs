@@ -25,13 +25,13 @@ const LEAST_BETWEEN_LOOKS: Duration = Duration::from_micros(200);
 /// Starts the thread. It ends when all calls pass.
 pub(super) fn start(explorer: &'static Explorer) -> io::Result<()> {
     let thread = thread::Builder::new().name("yovanelum-explore".to_string());
-    let help = move || {
-        Helper {
+    let help: Box<dyn FnOnce() + Send> = Box::new(move || {
+        let mut helper = Helper {
             explorer,
             quiet_since: None,
-        }
-        .help();
-    };
+        };
+        helper.help();
+    });
     thread.spawn(help).map(drop)
 }
 

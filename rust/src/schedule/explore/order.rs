@@ -1,5 +1,6 @@
 //! By what the choices of a run are made, and the text that names it.
 
+use crate::run::listed::IntoList;
 use std::fmt;
 use std::path::PathBuf;
 
@@ -99,7 +100,7 @@ impl fmt::Display for Order {
         f.write_str(if self.has_timers { "t" } else { "" })?;
         match &self.kind {
             OrderKind::Steps(steps) => {
-                let steps: Vec<_> = steps.iter().map(|(at, to)| format!("{at}.{to}")).collect();
+                let steps: Vec<_> = steps.iter().map(|(at, to)| format!("{at}.{to}")).listed();
                 write!(f, "s{}", steps.join("-"))
             }
             OrderKind::Random(seed) => write!(f, "r{seed}"),

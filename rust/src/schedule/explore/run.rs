@@ -13,9 +13,10 @@ use crate::channels::recorder::{Recorder, Shared, is_any_of_none};
 use crate::channels::standard_error::say;
 use crate::channels::turns::{self, Explored};
 use crate::channels::whereabouts::PlaceNumber;
+use crate::run::listed::PushAll;
+use crate::run::numbered::NumberMap;
 use crate::run::sorting::sort_by_key;
 use crate::schedule::replay;
-use std::collections::HashMap;
 use std::path::{Path, PathBuf};
 use std::sync::{Arc, Mutex, OnceLock, Weak};
 use std::time::Duration;
@@ -301,9 +302,9 @@ impl ExploredRun {
             return;
         };
         drop(test);
-        let mut known: HashMap<PlaceNumber, NamedPlace> = HashMap::new();
+        let mut known: NumberMap<PlaceNumber, NamedPlace> = NumberMap::new();
         let mut named = |place: &PlaceNumber| {
-            let named = known.entry(*place).or_insert_with(|| name_place(*place));
+            let named = known.get_or_insert_with(*place, || name_place(*place));
             (named.what.clone(), named.at.clone())
         };
         for (step, place) in &places.of_steps {
@@ -311,12 +312,12 @@ impl ExploredRun {
                 (step.waited_for, step.at) = named(place);
             }
         }
-        for (who, place) in &places.now {
+        for (who, place) in places.now.iter() {
             let (what, at) = named(place);
-            schedule.waiting.extend(what.map(|what| WaitingTask {
+            schedule.waiting.push_all(what.map(|what| WaitingTask {
                 what,
                 at,
-                who: who.clone(),
+                who: who.into(),
             }));
         }
         sort_by_key(&mut schedule.waiting, |waiting| waiting.who.clone());

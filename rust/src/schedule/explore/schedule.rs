@@ -1,5 +1,6 @@
 //! The schedule of a run: who was let go, one after the other. Its file is text, one line for each.
 
+use crate::run::listed::IntoList;
 use std::fmt::Write as _;
 use std::path::Path;
 use std::sync::Arc;
@@ -22,6 +23,22 @@ pub(crate) struct Step {
     /// What the task waited for that is polled, as `Mutex::lock`.
     pub(crate) waited_for: Option<String>,
     pub(crate) who: Arc<str>,
+}
+
+#[cfg(test)]
+impl Step {
+    /// A poll of the first of two who stood.
+    pub(crate) fn poll_of(who: &str, turn: Turn) -> Step {
+        Step {
+            chosen: 0,
+            count: 2,
+            turn,
+            what: What::Poll,
+            at: None,
+            waited_for: None,
+            who: who.into(),
+        }
+    }
 }
 
 /// Whether the one that went before is held for this one.
@@ -147,7 +164,7 @@ impl Schedule {
     pub(crate) fn other_steps(&self) -> Vec<(u32, u32)> {
         let numbered = (0..).zip(&self.steps);
         let other = numbered.filter(|(_, step)| step.chosen > 0);
-        other.map(|(number, step)| (number, step.chosen)).collect()
+        other.map(|(number, step)| (number, step.chosen)).listed()
     }
 
     /// Returns the text of its file.
@@ -396,12 +413,9 @@ mod tests {
     fn schedule() -> Schedule {
         let step = |chosen, who: &str, what, at| Step {
             chosen,
-            count: 2,
-            turn: if chosen > 0 { Turn::Switch } else { Turn::Same },
             what,
             at,
-            waited_for: None,
-            who: who.into(),
+            ..Step::poll_of(who, if chosen > 0 { Turn::Switch } else { Turn::Same })
         };
         let send = What::Call {
             word: "send".to_string(),
@@ -450,15 +464,12 @@ mod tests {
         let mut schedule = Schedule::new("s".to_string());
         schedule.has_points = true;
         schedule.steps = vec![Step {
-            chosen: 0,
             count: 1,
-            turn: Turn::Free,
             what: What::Point {
                 called: "Mutex::lock".to_string(),
             },
             at: Some(("src/a.rs".to_string(), 7)),
-            waited_for: None,
-            who: "ann".into(),
+            ..Step::poll_of("ann", Turn::Free)
         }];
         let wanted = "yovanelum schedule 1\norder s\nend passed\npoints\nrestless 0\nunnamed 0\nsteps 1\n\
             0 1 . point Mutex::lock 7:src/a.rs ann\n";

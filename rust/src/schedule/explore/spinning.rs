@@ -4,8 +4,9 @@
 use super::stand::ArrivingPoint;
 use crate::channels::channel::CallSite;
 use crate::channels::turns::ArrivingCall;
+use crate::run::by_text::TextMap;
+use crate::run::numbered::NumberMap;
 use crate::run::operation::{CallSet, Operation};
-use std::collections::HashMap;
 use std::ptr;
 use std::sync::Arc;
 
@@ -22,10 +23,10 @@ const LOOKS_KEPT: usize = 16;
 #[derive(Default)]
 pub(super) struct SpinDetector {
     /// How often each channel was changed.
-    versions: HashMap<u32, u64>,
+    versions: NumberMap<u32, u64>,
     /// How often anything was changed that tokio's own calls look at.
     version_of_points: u64,
-    by_caller: HashMap<Arc<str>, Vec<RepeatedLook>>,
+    by_caller: TextMap<Vec<RepeatedLook>>,
 }
 
 /// A look: which call it is, and what it has seen.
@@ -103,7 +104,7 @@ impl SpinDetector {
     pub(super) fn goes(&mut self, who: &Arc<str>, call: CallInSource, has_unread: bool) {
         let effect = call.effect(has_unread);
         if effect == EffectOnOthers::Changes {
-            *self.versions.entry(call.channel).or_default() += 1;
+            *self.versions.get_or_default(call.channel) += 1;
         }
         self.notes(who, LookedBy::Call(call), effect);
     }
@@ -125,7 +126,7 @@ impl SpinDetector {
             return;
         }
         let version = self.version(look);
-        let looks = self.by_caller.entry(who.clone()).or_default();
+        let looks = self.by_caller.get_or_default(who);
         let found = looks.iter().position(|other| other.look == look);
         match found {
             Some(index) if looks[index].version == version => looks[index].times += 1,

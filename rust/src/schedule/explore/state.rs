@@ -12,8 +12,10 @@ use super::spinning::SpinDetector;
 use super::stand::{Arrival, Stand};
 use super::threads::{Asked, Sleeper, ThreadId, Threads, this_thread};
 use crate::channels::whereabouts::PlaceNumber;
+use crate::run::by_text::TextMap;
+use crate::run::listed::{IntoList, PushAll};
+use crate::run::numbered::NumberMap;
 use crate::run::sorting::sort_by;
-use std::collections::HashMap;
 use std::sync::Arc;
 use std::task::Waker;
 use std::thread;
@@ -51,7 +53,7 @@ pub(super) struct ExplorerState {
     is_time_offered: bool,
     last: Option<Arc<str>>,
     /// When each caller went last.
-    went_at: HashMap<Arc<str>, usize>,
+    went_at: TextMap<usize>,
     /// Timed waits that time was let pass for in vain.
     vain: Vec<Sleeper>,
     began: Instant,
@@ -61,7 +63,7 @@ pub(super) struct ExplorerState {
     pause: Duration,
     next_number: u64,
     /// How many have each name.
-    names: HashMap<String, u32>,
+    names: TextMap<u32>,
     pub(super) wait_places: WaitPlaces,
 }
 
@@ -69,7 +71,7 @@ pub(super) struct ExplorerState {
 #[derive(Clone, Default)]
 pub(super) struct WaitPlaces {
     /// Where each one waits that is alive.
-    pub(super) now: HashMap<Arc<str>, PlaceNumber>,
+    pub(super) now: TextMap<PlaceNumber>,
     /// Where the one waited that was polled at this step, or where its call of tokio's own is made.
     pub(super) of_steps: Vec<(usize, PlaceNumber)>,
 }
@@ -96,20 +98,20 @@ impl ExplorerState {
             is_let_idle: order.has_timers,
             is_time_offered: offered.time,
             last: None,
-            went_at: HashMap::new(),
+            went_at: TextMap::new(),
             vain: Vec::new(),
             began: Instant::now(),
             has_sleepers: false,
             pause: pause(),
             next_number: 0,
-            names: HashMap::new(),
+            names: TextMap::new(),
             wait_places: WaitPlaces::default(),
         }
     }
 
     /// Returns a name that no other caller has: this one, with a number from the second one on.
     pub(super) fn numbered(&mut self, name: &str) -> Arc<str> {
-        let count = self.names.entry(name.to_string()).or_default();
+        let count = self.names.get_or_default(name);
         *count += 1;
         match count {
             1 => name.into(),
@@ -196,7 +198,7 @@ impl ExplorerState {
             chosen
                 .filter(|stand| stand.spins)
                 .map(|stand| stand.thread)
-                .collect()
+                .listed()
         };
         spinning
             .into_iter()
@@ -248,7 +250,7 @@ impl ExplorerState {
 
     fn look(&mut self) -> Option<Vec<Sleeper>> {
         let this = this_thread();
-        let mut asked = HashMap::new();
+        let mut asked = NumberMap::new();
         for stand in &self.stands {
             let (is_blocked, thread) = (stand.is_blocking(), stand.thread);
             if is_blocked && !stand.is_chosen {
@@ -310,7 +312,7 @@ impl ExplorerState {
         }
         let step = self.schedule.steps.len() - 1;
         let of_steps = &mut self.wait_places.of_steps;
-        of_steps.extend(place.map(|place| (step, place)));
+        of_steps.push_all(place.map(|place| (step, place)));
         self.moved();
         if let What::Time { .. } = what {
             // Time is the switch, and whoever it wakes may go on.
@@ -318,7 +320,7 @@ impl ExplorerState {
             return self.let_time_pass(rest);
         }
         let (who, number) = (who.clone(), *number);
-        self.went_at.insert(who.clone(), self.schedule.steps.len());
+        self.went_at.insert(&who, self.schedule.steps.len());
         self.last = Some(who);
         self.let_go(number);
     }
@@ -351,7 +353,7 @@ impl ExplorerState {
         };
         let open = self.stands.iter();
         let open = open.filter(|stand| !stand.is_chosen && !is_stuck(stand));
-        let mut standing: Vec<&Stand> = open.collect();
+        let mut standing: Vec<&Stand> = open.listed();
         if standing.is_empty() {
             return Vec::new();
         }
@@ -360,7 +362,7 @@ impl ExplorerState {
         if is_any_busy {
             standing.retain(|stand| !is_idle(stand));
         }
-        let mut all: Vec<Candidate> = standing.into_iter().map(Stand::candidate).collect();
+        let mut all: Vec<Candidate> = standing.into_iter().map(Stand::candidate).listed();
         sort_by(&mut all, |a, b| (&a.who, a.number).cmp(&(&b.who, b.number)));
         let is_time_near = self.is_time_near(rest);
         let first = if is_any_busy {
@@ -397,7 +399,7 @@ impl ExplorerState {
 fn ready(standing: &[Candidate]) -> String {
     const NAMED: usize = 3;
     let named = standing.iter().take(NAMED);
-    let named: Vec<_> = named.map(|one| format!("`{}`", one.who)).collect();
+    let named: Vec<_> = named.map(|one| format!("`{}`", one.who)).listed();
     match standing.len().saturating_sub(NAMED) {
         0 => named.join(", "),
         more => format!("{} and {more} more", named.join(", ")),

@@ -3,6 +3,7 @@
 
 use super::random::hashed;
 use super::system_call::{self, Doing, Timer};
+use crate::run::listed::{IntoList, PushAll};
 use std::cell::OnceCell;
 use std::fs::{self, File};
 use std::path::{Path, PathBuf};
@@ -155,7 +156,7 @@ impl Threads {
         self.link_count = link_count;
         let entries = fs::read_dir(&self.folder).into_iter().flatten().flatten();
         let numbers = entries.filter_map(|entry| entry.file_name().to_str()?.parse().ok());
-        let numbers: Vec<ThreadId> = numbers.collect();
+        let numbers: Vec<ThreadId> = numbers.listed();
         self.threads
             .retain(|thread| numbers.contains(&thread.number));
         for number in numbers {
@@ -163,7 +164,7 @@ impl Threads {
                 let is_of_others = self.harness == Some(number);
                 let folder = self.folder.join(number.to_string());
                 self.threads
-                    .extend(Thread::open(number, &folder, is_of_others));
+                    .push_all(Thread::open(number, &folder, is_of_others));
             }
         }
     }

@@ -12,6 +12,7 @@ use super::{ArrivingCall, Identity, stop};
 use crate::channels::backend::Actor;
 use crate::channels::reentrant::thread_number;
 use crate::channels::standard_error::say;
+use crate::run::listed::IntoList;
 use crate::schedule::entrance::Entrance;
 use crate::schedule::explore::this_thread;
 use std::path::{Path, PathBuf};
@@ -63,7 +64,7 @@ impl Gate {
     pub(super) fn new(path: &Path, recorder: u64, plan: Plan, patience: Duration) -> Gate {
         let state = GateState::new(&plan);
         let is_over = state.is_over;
-        let condvars = |count: usize| (0..count).map(|_| Condvar::new()).collect();
+        let condvars = |count: usize| (0..count).map(|_| Condvar::new()).listed();
         Gate {
             path: path.to_path_buf(),
             recorder,

@@ -18,7 +18,8 @@ pub(super) fn start(gate: &Arc<Gate>) -> io::Result<()> {
     let gate = gate.clone();
     let mut rest = RestWatch::new();
     let thread = thread::Builder::new().name("yovanelum-replay".to_string());
-    thread.spawn(move || help(&gate, &mut rest)).map(drop)
+    let help: Box<dyn FnOnce() + Send> = Box::new(move || help(&gate, &mut rest));
+    thread.spawn(help).map(drop)
 }
 
 fn help(gate: &Gate, rest: &mut RestWatch) {

@@ -8,6 +8,7 @@ use crate::channels::backend::Actor;
 use crate::channels::recorder::NotedPanic;
 use crate::channels::turns::TestEnd;
 use crate::run::account::UnnamedChannel;
+use crate::run::listed::IntoList;
 use crate::run::sidecar::{Panic, Sidecar, SourceLocation};
 use std::fmt::{self, Write as _};
 
@@ -137,12 +138,12 @@ impl Replayed {
         let failures = panics.iter();
         let failures: Vec<_> = failures
             .map(|it| (it.text.clone(), it.location.clone()))
-            .collect();
+            .listed();
         let (Some(last), Some(last_before)) = (failures.last(), self.failures_before.last()) else {
             // An `Err` has no text here.
             return "the test failed".to_string();
         };
-        let known: Vec<_> = self.failures_before.iter().map(without_numbers).collect();
+        let known: Vec<_> = self.failures_before.iter().map(without_numbers).listed();
         let is_new = |failure: &&PanicBefore| !known.contains(&without_numbers(failure));
         let other = failures.iter().find(is_new);
         let is_last = without_numbers(last) == without_numbers(last_before);
@@ -203,7 +204,7 @@ fn failures(names: &Sidecar) -> Vec<PanicBefore> {
             .and_then(|at| names.locations.get(at).cloned());
         (panic.text.clone(), location)
     };
-    panics.map(failure).collect()
+    panics.map(failure).listed()
 }
 
 /// Returns a failure without what differs from run to run: the numbers of tasks and threads,
@@ -255,10 +256,7 @@ const SHOWN: usize = 200;
 fn failure_in_words((text, location): &PanicBefore) -> String {
     // An assertion has its values on lines of their own.
     let lines = text.split('\n').map(str::trim);
-    let line = lines
-        .filter(|line| !line.is_empty())
-        .collect::<Vec<_>>()
-        .join(", ");
+    let line = lines.filter(|line| !line.is_empty()).listed().join(", ");
     let mut words: String = line.chars().take(SHOWN).collect();
     if line.chars().nth(SHOWN).is_some() {
         words.push('…');

@@ -9,11 +9,12 @@
 use super::ArrivingCall;
 use crate::channels::actors::{MOST_TASKS, SPAWNED_TASK, UNNAMED_TASK, UNNAMED_THREAD};
 use crate::channels::backend::Actor;
+use crate::run::by_text::TextMap;
 use crate::run::journal::{Run, RunEntry};
-use crate::run::numbered::NumberMap;
+use crate::run::numbered::{NumberMap, NumberSet};
 use crate::run::operation::Operation;
 use crate::run::sidecar::{Maker, Sidecar};
-use std::collections::{HashMap, HashSet};
+use std::collections::HashMap;
 
 /// No step.
 pub(super) const NONE: u32 = u32::MAX;
@@ -58,18 +59,20 @@ pub(super) struct Plan {
     /// further calls after the journal's end.
     pub(super) outlives: [bool; Actor::MOST],
     classes: [Class; Actor::MOST],
-    numbers: HashMap<String, u32>,
+    numbers: TextMap<u32>,
 }
 
 impl Plan {
     /// Returns the plan of a run with these names.
     pub(super) fn new(run: &Run, names: Sidecar) -> Plan {
         let classes = std::array::from_fn(|actor| class_of(actor, &names));
-        let named = (0..).zip(&classes).filter_map(|(actor, class)| {
-            let name = names.actors.get(&u64::from(actor))?;
-            (*class != Class::Unnamed).then(|| (name.clone(), actor))
-        });
-        let numbers = named.collect();
+        let mut numbers = TextMap::new();
+        for (actor, class) in (0..).zip(&classes) {
+            let name = names.actors.get(&u64::from(actor));
+            if let Some(name) = name.filter(|_| *class != Class::Unnamed) {
+                numbers.insert(name, actor);
+            }
+        }
         let mut plan = Plan {
             steps: Vec::new(),
             names,
@@ -89,11 +92,11 @@ impl Plan {
     fn add_steps(&mut self, run: &Run) {
         let mut last_of_lane: Vec<u32> = Vec::new();
         let mut last_of_actor = [NONE; Actor::MOST];
-        let mut count_of_channel: HashMap<u32, u32> = HashMap::new();
+        let mut count_of_channel: NumberMap<u32, u32> = NumberMap::new();
         self.steps.reserve_exact(run.len() as usize);
         for (step, (_, call)) in (0..).zip(run.entries()) {
             let actor = call.actor;
-            let count = count_of_channel.entry(call.channel).or_default();
+            let count = count_of_channel.get_or_default(call.channel);
             let index = *count;
             *count += 1;
             let is_cancelled = has(&self.names.matching.cancelled, &call, index);
@@ -156,7 +159,7 @@ impl Plan {
     }
 
     fn find_outliving(&mut self) {
-        let dropped: HashSet<_> = self
+        let dropped: NumberSet<_> = self
             .steps
             .iter()
             .filter(|step| step.call.word == Operation::Drop)
@@ -223,8 +226,8 @@ impl Plan {
         let count = self.names.actors.iter().next_back();
         let count = count.map_or(0, |(last, _)| *last as usize + 1);
         let mut names = vec![None; count.min(Actor::MOST)];
-        for (name, actor) in &self.numbers {
-            names[*actor as usize] = Some(name.clone());
+        for (name, actor) in self.numbers.iter() {
+            names[*actor as usize] = Some(name.to_string());
         }
         names
     }

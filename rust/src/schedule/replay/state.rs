@@ -3,13 +3,16 @@
 use super::clock::{RunningClock, Time};
 use super::outcome;
 use super::plan::{NONE, Plan};
+use super::waiters::Waiters;
 use super::{ArrivingCall, Identity};
 use crate::channels::backend::Actor;
 use crate::channels::channel::CallSite;
 use crate::channels::turns::Ticket;
+use crate::run::by_text::TextMap;
+use crate::run::listed::{IntoList, PushAll};
+
 use crate::run::operation::Operation;
 use crate::schedule::explore::ThreadId;
-use std::collections::{BTreeMap, HashMap};
 use std::iter;
 use std::task::Waker;
 
@@ -95,7 +98,7 @@ pub(super) struct GateState {
     pub(super) is_given: bool,
     pub(super) lanes: Vec<Lane>,
     pub(super) actors: Vec<OfActor>,
-    pub(super) waiters: BTreeMap<Ticket, Waiter>,
+    pub(super) waiters: Waiters,
     next_ticket: u64,
     /// How many polls are held back.
     held_count: usize,
@@ -122,7 +125,9 @@ pub(super) struct GateState {
     /// The threads of runtimes, as far as named futures are polled there.
     runtime_threads: Vec<usize>,
     /// Who has made channels, by their names.
-    makers: HashMap<Option<String>, Identity>,
+    makers: TextMap<Identity>,
+    /// Who has made the last channel under no name.
+    nameless_maker: Option<Identity>,
     /// The first value with another text than in the journal.
     pub(super) other_text: Option<String>,
 }
@@ -158,9 +163,9 @@ impl GateState {
         GateState {
             position: 0,
             is_given: false,
-            lanes: plan.first_of_lane.iter().map(lane).collect(),
-            actors: plan.first_of_actor.iter().map(actor).collect(),
-            waiters: BTreeMap::new(),
+            lanes: plan.first_of_lane.iter().map(lane).listed(),
+            actors: plan.first_of_actor.iter().map(actor).listed(),
+            waiters: Waiters::default(),
             next_ticket: 0,
             held_count: 0,
             blocked: Vec::new(),
@@ -176,7 +181,8 @@ impl GateState {
             shared: None,
             has_unnamed_tasks: false,
             runtime_threads: Vec::new(),
-            makers: HashMap::new(),
+            makers: TextMap::new(),
+            nameless_maker: None,
             other_text: None,
         }
     }
@@ -325,7 +331,10 @@ impl GateState {
 
     /// Records who has made a channel under this name, or under none.
     pub(super) fn see_maker(&mut self, name: &Option<String>, user: Identity) {
-        let before = self.makers.insert(name.clone(), user.clone());
+        let before = match name {
+            Some(name) => self.makers.insert(name, user.clone()),
+            None => self.nameless_maker.replace(user.clone()),
+        };
         let is_other = before.is_some_and(|before| before.is_alive() && !before.is_same(&user));
         if is_other && self.shared.is_none() {
             self.shared = Some(outcome::shared_making(name.as_deref()));
@@ -352,25 +361,20 @@ impl GateState {
             wakes.lane = (self.lanes[lane as usize].blocked > 0).then_some(lane);
             wakes.actor = (self.actors[actor as usize].blocked > 0).then_some(actor);
             self.release(actor);
-            while let Some(ticket) = self.first_waiter(lane) {
+            while let Some(ticket) = self.waiters.first_of(lane) {
                 self.woken
-                    .extend(self.waiters.remove(&ticket).map(|waiter| waiter.waker));
+                    .push_all(self.waiters.remove(&ticket).map(|waiter| waiter.waker));
             }
         }
         wakes.helper = !self.woken.is_empty();
         wakes
     }
 
-    fn first_waiter(&self, lane: u32) -> Option<Ticket> {
-        let mut waiters = self.waiters.range((lane, 0)..=(lane, u64::MAX));
-        waiters.next().map(|(ticket, _)| *ticket)
-    }
-
     /// Hands the held futures of an actor to the helper: what it may do next has changed.
     pub(super) fn release(&mut self, actor: u32) {
         let held = self.actors[actor as usize].held.drain(..);
         self.held_count -= held.len();
-        self.woken.extend(held.map(|held| held.waker));
+        self.woken.push_all(held.map(|held| held.waker));
     }
 
     /// Holds back the poll of a future, until its actor is released.
@@ -403,7 +407,7 @@ impl GateState {
     /// Hands the futures of all actors to the helper, those too that wait for something else.
     pub(super) fn wake_all(&mut self) {
         let wakers = self.actors.iter_mut().filter_map(|of| of.waker.take());
-        self.woken.extend(wakers);
+        self.woken.push_all(wakers);
     }
 
     /// Whether the future of an actor is that of the other one, or is polled by it.
@@ -419,9 +423,9 @@ impl GateState {
             self.release(actor as u32);
         }
         let waiters = std::mem::take(&mut self.waiters).into_values();
-        self.woken.extend(waiters.map(|waiter| waiter.waker));
+        self.woken.push_all(waiters.map(|waiter| waiter.waker));
         let tasks = self.lanes.iter_mut().flat_map(|lane| lane.tasks.drain(..));
-        self.woken.extend(tasks);
+        self.woken.push_all(tasks);
         self.wake_all();
     }
 

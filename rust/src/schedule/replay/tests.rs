@@ -176,7 +176,6 @@ fn poll(
 }
 
 #[test]
-#[cfg_attr(target_family = "wasm", ignore = "WebAssembly has no threads")]
 fn calls_in_the_order_of_the_journal_pass_at_once() {
     let gate = gate();
     make_first(&gate, 6);
@@ -189,7 +188,6 @@ fn calls_in_the_order_of_the_journal_pass_at_once() {
 }
 
 #[test]
-#[cfg_attr(target_family = "wasm", ignore = "WebAssembly has no threads")]
 fn a_thread_blocks_until_its_turn() {
     let gate = gate();
     let made = Mutex::new(vec![]);
@@ -214,7 +212,6 @@ fn a_thread_blocks_until_its_turn() {
 }
 
 #[test]
-#[cfg_attr(target_family = "wasm", ignore = "WebAssembly has no threads")]
 fn a_permit_that_is_not_used_is_given_back() {
     let gate = gate();
     drop(ordered(&gate).pass(call(CLERK, 0, Operation::Send, 0), &|| false));
@@ -224,7 +221,6 @@ fn a_permit_that_is_not_used_is_given_back() {
 }
 
 #[test]
-#[cfg_attr(target_family = "wasm", ignore = "WebAssembly has no threads")]
 fn two_callers_of_one_lane_do_not_both_get_the_turn() {
     let gate = gate();
     make_first(&gate, 3);
@@ -243,7 +239,6 @@ fn two_callers_of_one_lane_do_not_both_get_the_turn() {
 }
 
 #[test]
-#[cfg_attr(target_family = "wasm", ignore = "WebAssembly has no threads")]
 fn a_closure_that_changes_a_watch_begins_before_its_own_calls() {
     let journal = "ttd-journal 2\nbroadcast 4\nwatch 0\nsteps\n\
         1 1 0 try-recv 1 = empty\n2 0 0 send 0 0 = sent 1\n3 0 1 modify 0 1 yes = told yes\nend\n";
@@ -265,7 +260,6 @@ fn a_closure_that_changes_a_watch_begins_before_its_own_calls() {
 }
 
 #[test]
-#[cfg_attr(target_family = "wasm", ignore = "WebAssembly has no threads")]
 fn a_handle_is_dropped_by_whoever_has_it_last() {
     let gate = gate();
     make_first(&gate, 5);
@@ -274,7 +268,6 @@ fn a_handle_is_dropped_by_whoever_has_it_last() {
 }
 
 #[test]
-#[cfg_attr(target_family = "wasm", ignore = "WebAssembly has no threads")]
 fn callers_who_share_a_handle_without_a_name_are_not_told_apart() {
     let journal = "ttd-journal 2\nbroadcast 4\nsteps\n\
         1 2 0 send 0 0 = sent 1\n2 3 0 send 0 1 = sent 1\nend\n";
@@ -299,7 +292,6 @@ fn callers_who_share_a_handle_without_a_name_are_not_told_apart() {
 }
 
 #[test]
-#[cfg_attr(target_family = "wasm", ignore = "WebAssembly has no threads")]
 fn a_caller_without_a_name_waits_for_the_call_of_another_one() {
     let journal = "ttd-journal 2\nbroadcast 4\nsteps\n\
         1 2 0 send 0 0 = sent 1\n2 3 0 receiver-count 0 = count 1\nend\n";
@@ -313,7 +305,6 @@ fn a_caller_without_a_name_waits_for_the_call_of_another_one() {
 }
 
 #[test]
-#[cfg_attr(target_family = "wasm", ignore = "WebAssembly has no threads")]
 fn a_value_with_another_text_is_told() {
     let gate = gate();
     let channel = ordered(&gate);
@@ -334,7 +325,6 @@ fn a_value_with_another_text_is_told() {
 }
 
 #[test]
-#[cfg_attr(target_family = "wasm", ignore = "WebAssembly has no threads")]
 fn a_call_that_waits_has_a_mark() {
     let journal = "ttd-journal 2\nbroadcast 4\nwatch 0\nsteps\n\
         1 0 0 receiver-count 0 = count 1\n2 1 0 drop 1 = dropped\n\
@@ -349,7 +339,6 @@ fn a_call_that_waits_has_a_mark() {
 }
 
 #[test]
-#[cfg_attr(target_family = "wasm", ignore = "WebAssembly has no threads")]
 fn channels_are_known_by_their_makers() {
     let gate = gate();
     let made = |name: Option<&str>, nth| {
@@ -364,7 +353,6 @@ fn channels_are_known_by_their_makers() {
 }
 
 #[test]
-#[cfg_attr(target_family = "wasm", ignore = "WebAssembly has no threads")]
 fn the_line_at_the_end_says_how_the_test_ended() {
     let gate = gate();
     make_first(&gate, 2);

@@ -9,6 +9,8 @@ use std::sync::{Arc, Mutex};
 use std::task::{Context, Poll, Waker};
 use tokio::sync::Notify;
 use tokio::sync::broadcast::{Receiver, Sender, error::RecvError};
+use tokio::task::JoinHandle;
+use yovanelum::named;
 
 /// How many orders are sent after the first one.
 const MORE: u32 = 5;
@@ -27,6 +29,12 @@ impl Signals {
     /// Nothing was told yet.
     pub fn new() -> Arc<Signals> {
         Arc::default()
+    }
+
+    /// The same for a test, the receiver, and whoever keeps that busy.
+    pub fn shared() -> [Arc<Signals>; 3] {
+        let signals = Signals::new();
+        [signals.clone(), signals.clone(), signals]
     }
 
     /// Tells that the receiver's task is busy, once the poll that goes on has ended: a task that is
@@ -110,12 +118,25 @@ pub async fn next(orders: &mut Receiver<u32>, signals: &Signals) -> Option<u32> 
 }
 
 /// Fails if the receiver has lost orders.
-pub async fn audited(audit: tokio::task::JoinHandle<()>, signals: &Signals) {
+pub async fn audited(audit: JoinHandle<()>, signals: &Signals) {
     audit.await.unwrap();
     assert!(
         !signals.has_lagged.load(Ordering::SeqCst),
         "orders were lost"
     );
+}
+
+/// Has a task feed, and fails if the receiver has lost orders.
+pub async fn fed(orders: Sender<u32>, audit: JoinHandle<()>, signals: &Arc<Signals>) {
+    tokio::spawn(named("feed", feed(orders, signals.clone())));
+    audited(audit, signals).await;
+}
+
+/// The same of a thread.
+pub async fn fed_by_thread(orders: Sender<u32>, audit: JoinHandle<()>, signals: &Arc<Signals>) {
+    let thread = feed_on_thread(orders, signals.clone());
+    audited(audit, signals).await;
+    thread.join().unwrap();
 }
 
 /// A future by hand that is ready once it was opened.

@@ -29,6 +29,12 @@ pub async fn wait(milliseconds: u64) {
 pub struct Sent(Arc<AtomicU32>);
 
 impl Sent {
+    /// None were sent, for who sends and who counts.
+    pub fn shared() -> [Sent; 2] {
+        let sent = Sent::default();
+        [sent.clone(), sent]
+    }
+
     /// Counts one more.
     pub fn add(&self) {
         self.0.fetch_add(1, Ordering::SeqCst);

@@ -3,7 +3,7 @@
 //! `@NAME` marks a line that a reason names.
 
 use late::Db;
-use late::events::{Gate, Signals, audited, feed, feed_on_thread, next};
+use late::events::{Gate, Signals, audited, fed, fed_by_thread, next};
 use std::sync::Arc;
 use std::time::Duration;
 use tokio::io::{AsyncReadExt, AsyncWriteExt};
@@ -15,8 +15,7 @@ use yovanelum::{Recorder, named};
 async fn rwlock_read() {
     let _recorder = Recorder::for_test("rwlock_read");
     let (orders, mut rx) = broadcast::channel(2);
-    let signals = Signals::new();
-    let (own, changed) = (signals.clone(), signals.clone());
+    let [signals, own, changed] = Signals::shared();
     let prices = Arc::new(RwLock::new(7));
     let held = prices.clone().write_owned().await;
     let audit = tokio::spawn(named("audit", async move {
@@ -32,16 +31,14 @@ async fn rwlock_read() {
         *prices += 1;
         drop(prices); // @rwlock_read_released
     }));
-    tokio::spawn(named("feed", feed(orders, signals.clone())));
-    audited(audit, &signals).await;
+    fed(orders, audit, &signals).await;
 }
 
 #[tokio::test(flavor = "multi_thread", worker_threads = 1)]
 async fn barrier() {
     let _recorder = Recorder::for_test("barrier");
     let (orders, mut rx) = broadcast::channel(2);
-    let signals = Signals::new();
-    let (own, changed) = (signals.clone(), signals.clone());
+    let [signals, own, changed] = Signals::shared();
     let both = Arc::new(Barrier::new(2));
     let other = both.clone();
     let audit = tokio::spawn(named("audit", async move {
@@ -54,16 +51,14 @@ async fn barrier() {
         changed.overwritten().await;
         other.wait().await; // @barrier_full
     }));
-    tokio::spawn(named("feed", feed(orders, signals.clone())));
-    audited(audit, &signals).await;
+    fed(orders, audit, &signals).await;
 }
 
 #[tokio::test]
 async fn acquire_many() {
     let _recorder = Recorder::for_test("acquire_many");
     let (state, mut rx) = watch::channel(0);
-    let signals = Signals::new();
-    let (own, changed) = (signals.clone(), signals.clone());
+    let [signals, own, changed] = Signals::shared();
     let slots = Arc::new(Semaphore::new(2));
     let slot = slots.clone().acquire_owned().await.unwrap();
     let screen = tokio::spawn(named("screen", async move {
@@ -95,8 +90,7 @@ async fn acquire_many() {
 async fn mpsc_reply() {
     let _recorder = Recorder::for_test("mpsc_reply");
     let (orders, mut rx) = broadcast::channel(2);
-    let signals = Signals::new();
-    let (own, changed) = (signals.clone(), signals.clone());
+    let [signals, own, changed] = Signals::shared();
     let (ask, mut asked) = mpsc::channel(8);
     let (reply, mut replied) = mpsc::channel(8);
     let audit = tokio::spawn(named("audit", async move {
@@ -112,8 +106,7 @@ async fn mpsc_reply() {
             reply.send(id).await.unwrap(); // @reply_sent
         }
     }));
-    tokio::spawn(named("feed", feed(orders, signals.clone())));
-    audited(audit, &signals).await;
+    fed(orders, audit, &signals).await;
 }
 
 #[tokio::test]
@@ -121,8 +114,7 @@ async fn other_channel() {
     let _recorder = Recorder::for_test("other_channel");
     let (orders, mut rx) = broadcast::channel(2);
     let (approvals, mut approved) = broadcast::channel(8);
-    let signals = Signals::new();
-    let (own, changed) = (signals.clone(), signals.clone());
+    let [signals, own, changed] = Signals::shared();
     let audit = tokio::spawn(named("audit", async move {
         while let Some(id) = next(&mut rx, &own).await {
             own.is_busy_after_poll();
@@ -133,8 +125,7 @@ async fn other_channel() {
         changed.overwritten().await;
         approvals.send(0).unwrap(); // @approval_sent
     }));
-    tokio::spawn(named("feed", feed(orders, signals.clone())));
-    audited(audit, &signals).await;
+    fed(orders, audit, &signals).await;
 }
 
 #[tokio::test(start_paused = true)]
@@ -151,8 +142,7 @@ async fn deadline() {
             let _ = tokio::time::timeout_at(end, never).await; // @deadline_passes
         }
     }));
-    tokio::spawn(named("feed", feed(orders, signals.clone())));
-    audited(audit, &signals).await;
+    fed(orders, audit, &signals).await;
 }
 
 #[tokio::test]
@@ -163,8 +153,7 @@ async fn tcp_write() {
     let (stream, accepted) = tokio::join!(connects, listener.accept());
     let (mut stream, (mut accepted, _)) = (stream.unwrap(), accepted.unwrap());
     let (orders, mut rx) = broadcast::channel(2);
-    let signals = Signals::new();
-    let (own, changed) = (signals.clone(), signals.clone());
+    let [signals, own, changed] = Signals::shared();
     let audit = tokio::spawn(named("audit", async move {
         // More than the system buffers for both ends.
         let page = vec![0; 64 << 20];
@@ -178,8 +167,7 @@ async fn tcp_write() {
         let mut page = vec![];
         accepted.read_to_end(&mut page).await.unwrap();
     }));
-    tokio::spawn(named("feed", feed(orders, signals.clone())));
-    audited(audit, &signals).await;
+    fed(orders, audit, &signals).await;
 }
 
 #[tokio::test(flavor = "multi_thread", worker_threads = 1)]
@@ -188,8 +176,7 @@ async fn udp() {
     let socket = tokio::net::UdpSocket::bind("127.0.0.1:0").await.unwrap();
     let address = socket.local_addr().unwrap();
     let (orders, mut rx) = broadcast::channel(2);
-    let signals = Signals::new();
-    let (own, changed) = (signals.clone(), signals.clone());
+    let [signals, own, changed] = Signals::shared();
     let audit = tokio::spawn(named("audit", async move {
         let mut byte = [0];
         while next(&mut rx, &own).await.is_some() {
@@ -202,8 +189,7 @@ async fn udp() {
         changed.overwritten().await;
         server.send_to(b"x", address).await.unwrap();
     }));
-    tokio::spawn(named("feed", feed(orders, signals.clone())));
-    audited(audit, &signals).await;
+    fed(orders, audit, &signals).await;
 }
 
 #[tokio::test]
@@ -211,8 +197,7 @@ async fn duplex() {
     let _recorder = Recorder::for_test("duplex");
     let (mut near, mut far) = tokio::io::duplex(8);
     let (orders, mut rx) = broadcast::channel(2);
-    let signals = Signals::new();
-    let (own, changed) = (signals.clone(), signals.clone());
+    let [signals, own, changed] = Signals::shared();
     let audit = tokio::spawn(named("audit", async move {
         while next(&mut rx, &own).await.is_some() {
             own.is_busy_after_poll();
@@ -223,8 +208,7 @@ async fn duplex() {
         changed.overwritten().await;
         far.write_u8(1).await.unwrap(); // @duplex_written
     }));
-    tokio::spawn(named("feed", feed(orders, signals.clone())));
-    audited(audit, &signals).await;
+    fed(orders, audit, &signals).await;
 }
 
 #[tokio::test(flavor = "multi_thread", worker_threads = 2)]
@@ -240,9 +224,7 @@ async fn block_in_place() {
             tokio::task::block_in_place(|| own.block_until_overwritten());
         }
     }));
-    let thread = feed_on_thread(orders, signals.clone());
-    audited(audit, &signals).await;
-    thread.join().unwrap();
+    fed_by_thread(orders, audit, &signals).await;
 }
 
 #[tokio::test]
@@ -264,17 +246,14 @@ async fn sibling() {
         };
         tokio::join!(receives, computes);
     }));
-    let thread = feed_on_thread(orders, signals.clone());
-    audited(audit, &signals).await;
-    thread.join().unwrap();
+    fed_by_thread(orders, audit, &signals).await;
 }
 
 #[tokio::test(flavor = "multi_thread", worker_threads = 1)]
 async fn blocked_worker() {
     let _recorder = Recorder::for_test("blocked_worker");
     let (orders, mut rx) = broadcast::channel(2);
-    let signals = Signals::new();
-    let (own, blocks) = (signals.clone(), signals.clone());
+    let [signals, own, blocks] = Signals::shared();
     let audit = tokio::spawn(named("audit", async move {
         while next(&mut rx, &own).await.is_some() {
             own.is_busy_after_poll();
@@ -289,9 +268,7 @@ async fn blocked_worker() {
         blocks.block_until_overwritten();
     }));
     has_begun.await.unwrap();
-    let thread = feed_on_thread(orders, signals.clone());
-    audited(audit, &signals).await;
-    thread.join().unwrap();
+    fed_by_thread(orders, audit, &signals).await;
 }
 
 #[tokio::test]
@@ -317,8 +294,7 @@ async fn burst_of_main() {
 async fn select_stores() {
     let _recorder = Recorder::for_test("select_stores");
     let (orders, mut rx) = broadcast::channel(2);
-    let signals = Signals::new();
-    let (own, changed) = (signals.clone(), signals.clone());
+    let [signals, own, changed] = Signals::shared();
     let db = Db::default();
     let rows = db.0.clone().lock_owned().await;
     let audit = tokio::spawn(named("audit", async move {
@@ -340,8 +316,7 @@ async fn select_stores() {
         changed.overwritten().await;
         drop(rows); // @select_released
     }));
-    tokio::spawn(named("feed", feed(orders, signals.clone())));
-    audited(audit, &signals).await;
+    fed(orders, audit, &signals).await;
 }
 
 #[tokio::test]
@@ -349,8 +324,7 @@ async fn stream_filter() {
     use futures::StreamExt;
     let _recorder = Recorder::for_test("stream_filter");
     let (orders, rx) = broadcast::channel(2);
-    let signals = Signals::new();
-    let (own, changed) = (signals.clone(), signals.clone());
+    let [signals, own, changed] = Signals::shared();
     let known = Arc::new(Mutex::new(vec![]));
     let held = known.clone().lock_owned().await;
     let audit = tokio::spawn(named("audit", async move {
@@ -372,8 +346,7 @@ async fn stream_filter() {
         changed.overwritten().await;
         drop(held); // @filter_released
     }));
-    tokio::spawn(named("feed", feed(orders, signals.clone())));
-    audited(audit, &signals).await;
+    fed(orders, audit, &signals).await;
 }
 
 #[tokio::test]
@@ -381,8 +354,7 @@ async fn stream_buffered() {
     use futures::StreamExt;
     let _recorder = Recorder::for_test("stream_buffered");
     let (orders, rx) = broadcast::channel(2);
-    let signals = Signals::new();
-    let (own, changed) = (signals.clone(), signals.clone());
+    let [signals, own, changed] = Signals::shared();
     let bell = Arc::new(Notify::new());
     let rung = bell.clone();
     let audit = tokio::spawn(named("audit", async move {
@@ -402,16 +374,14 @@ async fn stream_buffered() {
         changed.overwritten().await;
         bell.notify_one(); // @buffered_rung
     }));
-    tokio::spawn(named("feed", feed(orders, signals.clone())));
-    audited(audit, &signals).await;
+    fed(orders, audit, &signals).await;
 }
 
 #[tokio::test(flavor = "multi_thread", worker_threads = 2)]
 async fn held_over_full_queue() {
     let _recorder = Recorder::for_test("held_over_full_queue");
     let (orders, mut rx) = broadcast::channel(2);
-    let signals = Signals::new();
-    let (own, changed) = (signals.clone(), signals.clone());
+    let [signals, own, changed] = Signals::shared();
     let state = Arc::new(Mutex::new(0));
     let held = state.clone().lock_owned().await;
     let (lines, mut written) = mpsc::channel(1);
@@ -430,8 +400,7 @@ async fn held_over_full_queue() {
         changed.overwritten().await;
         while written.recv().await.is_some() {}
     }));
-    tokio::spawn(named("feed", feed(orders, signals.clone())));
-    audited(audit, &signals).await;
+    fed(orders, audit, &signals).await;
 }
 
 #[tokio::test]
@@ -449,16 +418,14 @@ async fn join_set() {
             checks.join_next().await.unwrap().unwrap(); // @set_joined
         }
     }));
-    tokio::spawn(named("feed", feed(orders, signals.clone())));
-    audited(audit, &signals).await;
+    fed(orders, audit, &signals).await;
 }
 
 #[tokio::test]
 async fn aborted() {
     let _recorder = Recorder::for_test("aborted");
     let (orders, mut rx) = broadcast::channel(2);
-    let signals = Signals::new();
-    let (own, changed) = (signals.clone(), signals.clone());
+    let [signals, own, changed] = Signals::shared();
     let mut checks = tokio::task::JoinSet::new();
     let handle = checks.spawn(named("checker", std::future::pending::<()>()));
     let audit = tokio::spawn(named("audit", async move {
@@ -471,16 +438,14 @@ async fn aborted() {
         changed.overwritten().await;
         handle.abort();
     }));
-    tokio::spawn(named("feed", feed(orders, signals.clone())));
-    audited(audit, &signals).await;
+    fed(orders, audit, &signals).await;
 }
 
 #[tokio::test(flavor = "multi_thread", worker_threads = 2)]
 async fn solver() {
     let _recorder = Recorder::for_test("solver");
     let (orders, mut rx) = broadcast::channel(2);
-    let signals = Signals::new();
-    let (own, changed) = (signals.clone(), signals.clone());
+    let [signals, own, changed] = Signals::shared();
     let (ask, asked) = std::sync::mpsc::channel::<oneshot::Sender<u32>>();
     let thread = std::thread::Builder::new().name("solver".to_string());
     let thread = thread.spawn(move || {
@@ -497,8 +462,7 @@ async fn solver() {
             assert_eq!(answered.await, Ok(42)); // @solver_answered
         }
     }));
-    tokio::spawn(named("feed", feed(orders, signals.clone())));
-    audited(audit, &signals).await;
+    fed(orders, audit, &signals).await;
     thread.unwrap().join().unwrap();
 }
 
@@ -506,8 +470,7 @@ async fn solver() {
 async fn futures_lock() {
     let _recorder = Recorder::for_test("futures_lock");
     let (orders, mut rx) = broadcast::channel(2);
-    let signals = Signals::new();
-    let (own, changed) = (signals.clone(), signals.clone());
+    let [signals, own, changed] = Signals::shared();
     let rows = Arc::new(futures::lock::Mutex::new(vec![]));
     let locks = rows.clone();
     tokio::spawn(named("backup", async move {
@@ -521,16 +484,14 @@ async fn futures_lock() {
             rows.lock().await.push(id); // @futures_locked
         }
     }));
-    tokio::spawn(named("feed", feed(orders, signals.clone())));
-    audited(audit, &signals).await;
+    fed(orders, audit, &signals).await;
 }
 
 #[tokio::test]
 async fn gate() {
     let _recorder = Recorder::for_test("gate");
     let (orders, mut rx) = broadcast::channel(2);
-    let signals = Signals::new();
-    let (own, changed) = (signals.clone(), signals.clone());
+    let [signals, own, changed] = Signals::shared();
     let gate = Gate::default();
     let opens = gate.clone();
     let audit = tokio::spawn(named("audit", async move {
@@ -543,8 +504,7 @@ async fn gate() {
         changed.overwritten().await;
         opens.open();
     }));
-    tokio::spawn(named("feed", feed(orders, signals.clone())));
-    audited(audit, &signals).await;
+    fed(orders, audit, &signals).await;
 }
 
 #[tokio::test(flavor = "multi_thread", worker_threads = 2)]
@@ -570,17 +530,14 @@ async fn biased_jobs() {
             }
         }
     }));
-    let thread = feed_on_thread(orders, signals.clone());
-    audited(audit, &signals).await;
-    thread.join().unwrap();
+    fed_by_thread(orders, audit, &signals).await;
 }
 
 #[tokio::test]
 async fn thread_blocks_on() {
     let _recorder = Recorder::for_test("thread_blocks_on");
     let (orders, mut rx) = broadcast::channel(2);
-    let signals = Signals::new();
-    let (own, changed) = (signals.clone(), signals.clone());
+    let [signals, own, changed] = Signals::shared();
     let db = Db::default();
     let rows = db.0.clone().lock_owned().await;
     let audit = tokio::task::spawn_blocking(move || {

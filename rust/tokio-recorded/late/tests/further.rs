@@ -2,7 +2,7 @@
 //! in `reasons-further`, were written down before any was run.
 
 use late::Db;
-use late::events::{Signals, audited, feed, feed_on_thread, next};
+use late::events::{Signals, audited, fed, fed_by_thread, feed, next};
 use std::future::Future;
 use std::pin::Pin;
 use std::sync::Arc;
@@ -14,8 +14,7 @@ use yovanelum::{Recorder, named};
 async fn once_cell() {
     let _recorder = Recorder::for_test("once_cell");
     let (orders, mut rx) = broadcast::channel(2);
-    let signals = Signals::new();
-    let (own, changed) = (signals.clone(), signals.clone());
+    let [signals, own, changed] = Signals::shared();
     let rates = Arc::new(OnceCell::new());
     let (loaded, begun) = (rates.clone(), Arc::new(Notify::new()));
     let begins = begun.clone();
@@ -35,8 +34,7 @@ async fn once_cell() {
             assert_eq!(*rate, 7);
         }
     }));
-    tokio::spawn(named("feed", feed(orders, signals.clone())));
-    audited(audit, &signals).await;
+    fed(orders, audit, &signals).await;
 }
 
 #[tokio::test]
@@ -44,8 +42,7 @@ async fn other_watch() {
     let _recorder = Recorder::for_test("other_watch");
     let (orders, mut rx) = broadcast::channel(2);
     let (limits, mut limit) = watch::channel(0);
-    let signals = Signals::new();
-    let (own, changed) = (signals.clone(), signals.clone());
+    let [signals, own, changed] = Signals::shared();
     let audit = tokio::spawn(named("audit", async move {
         while next(&mut rx, &own).await.is_some() {
             own.is_busy_after_poll();
@@ -57,16 +54,14 @@ async fn other_watch() {
         limits.send(1).unwrap(); // @limit_set
         limits.closed().await;
     }));
-    tokio::spawn(named("feed", feed(orders, signals.clone())));
-    audited(audit, &signals).await;
+    fed(orders, audit, &signals).await;
 }
 
 #[tokio::test(flavor = "multi_thread", worker_threads = 2)]
 async fn try_join_locks() {
     let _recorder = Recorder::for_test("try_join_locks");
     let (orders, mut rx) = broadcast::channel(2);
-    let signals = Signals::new();
-    let (own, changed) = (signals.clone(), signals.clone());
+    let [signals, own, changed] = Signals::shared();
     let (stock, price) = (Arc::new(Mutex::new(1)), Arc::new(Mutex::new(2)));
     let held = stock.clone().lock_owned().await;
     let audit = tokio::spawn(named("audit", async move {
@@ -83,16 +78,14 @@ async fn try_join_locks() {
         changed.overwritten().await;
         drop(held); // @joined_released
     }));
-    tokio::spawn(named("feed", feed(orders, signals.clone())));
-    audited(audit, &signals).await;
+    fed(orders, audit, &signals).await;
 }
 
 #[tokio::test]
 async fn packer_joined() {
     let _recorder = Recorder::for_test("packer_joined");
     let (orders, mut rx) = broadcast::channel(2);
-    let signals = Signals::new();
-    let (own, changed) = (signals.clone(), signals.clone());
+    let [signals, own, changed] = Signals::shared();
     let db = Db::default();
     let held = db.0.clone().lock_owned().await;
     let audit = tokio::spawn(named("audit", async move {
@@ -107,16 +100,14 @@ async fn packer_joined() {
         changed.overwritten().await;
         drop(held);
     }));
-    tokio::spawn(named("feed", feed(orders, signals.clone())));
-    audited(audit, &signals).await;
+    fed(orders, audit, &signals).await;
 }
 
 #[tokio::test(flavor = "multi_thread", worker_threads = 1)]
 async fn reserved() {
     let _recorder = Recorder::for_test("reserved");
     let (orders, mut rx) = broadcast::channel(2);
-    let signals = Signals::new();
-    let (own, changed) = (signals.clone(), signals.clone());
+    let [signals, own, changed] = Signals::shared();
     let (lines, mut printed) = mpsc::channel(1);
     lines.send(0).await.unwrap();
     let audit = tokio::spawn(named("audit", async move {
@@ -129,16 +120,14 @@ async fn reserved() {
         changed.overwritten().await;
         while printed.recv().await.is_some() {} // @reserve_received
     }));
-    tokio::spawn(named("feed", feed(orders, signals.clone())));
-    audited(audit, &signals).await;
+    fed(orders, audit, &signals).await;
 }
 
 #[tokio::test(flavor = "multi_thread", worker_threads = 2)]
 async fn lock_with_timeout() {
     let _recorder = Recorder::for_test("lock_with_timeout");
     let (orders, mut rx) = broadcast::channel(2);
-    let signals = Signals::new();
-    let (own, changed) = (signals.clone(), signals.clone());
+    let [signals, own, changed] = Signals::shared();
     let rows = Arc::new(Mutex::new(0));
     let held = rows.clone().lock_owned().await;
     let audit = tokio::spawn(named("audit", async move {
@@ -152,8 +141,7 @@ async fn lock_with_timeout() {
         changed.overwritten().await;
         drop(held); // @timeout_released
     }));
-    tokio::spawn(named("feed", feed(orders, signals.clone())));
-    audited(audit, &signals).await;
+    fed(orders, audit, &signals).await;
 }
 
 #[tokio::test]
@@ -161,8 +149,7 @@ async fn futures_queue() {
     use futures::{SinkExt, StreamExt};
     let _recorder = Recorder::for_test("futures_queue");
     let (orders, mut rx) = broadcast::channel(2);
-    let signals = Signals::new();
-    let (own, changed) = (signals.clone(), signals.clone());
+    let [signals, own, changed] = Signals::shared();
     let (mut reply, mut replied) = futures::channel::mpsc::channel(1);
     let audit = tokio::spawn(named("audit", async move {
         while next(&mut rx, &own).await.is_some() {
@@ -174,8 +161,7 @@ async fn futures_queue() {
         changed.overwritten().await;
         reply.send(1).await.unwrap(); // @futures_replied
     }));
-    tokio::spawn(named("feed", feed(orders, signals.clone())));
-    audited(audit, &signals).await;
+    fed(orders, audit, &signals).await;
 }
 
 /// What an order is checked by.
@@ -198,8 +184,7 @@ impl Check for Rung {
 async fn boxed_check() {
     let _recorder = Recorder::for_test("boxed_check");
     let (orders, mut rx) = broadcast::channel(2);
-    let signals = Signals::new();
-    let (own, changed) = (signals.clone(), signals.clone());
+    let [signals, own, changed] = Signals::shared();
     let bell = Arc::new(Notify::new());
     let checks: Vec<Box<dyn Check + Sync>> = vec![Box::new(Rung(bell.clone()))];
     let audit = tokio::spawn(named("audit", async move {
@@ -214,16 +199,14 @@ async fn boxed_check() {
         changed.overwritten().await;
         bell.notify_one(); // @boxed_rung
     }));
-    tokio::spawn(named("feed", feed(orders, signals.clone())));
-    audited(audit, &signals).await;
+    fed(orders, audit, &signals).await;
 }
 
 #[tokio::test(flavor = "multi_thread", worker_threads = 1)]
 async fn never_gives_way() {
     let _recorder = Recorder::for_test("never_gives_way");
     let (orders, mut rx) = broadcast::channel(2);
-    let signals = Signals::new();
-    let (own, loops) = (signals.clone(), signals.clone());
+    let [signals, own, loops] = Signals::shared();
     let audit = tokio::spawn(named("audit", async move {
         while next(&mut rx, &own).await.is_some() {
             own.is_busy_after_poll();
@@ -243,17 +226,14 @@ async fn never_gives_way() {
     };
     tokio::spawn(named("import", tokio::task::unconstrained(endless)));
     has_begun.await.unwrap();
-    let thread = feed_on_thread(orders, signals.clone());
-    audited(audit, &signals).await;
-    thread.join().unwrap();
+    fed_by_thread(orders, audit, &signals).await;
 }
 
 #[tokio::test]
 async fn two_in_one_task() {
     let _recorder = Recorder::for_test("two_in_one_task");
     let (orders, mut rx) = broadcast::channel(2);
-    let signals = Signals::new();
-    let (own, changed) = (signals.clone(), signals.clone());
+    let [signals, own, changed] = Signals::shared();
     let bell = Arc::new(Notify::new());
     let rung = bell.clone();
     tokio::spawn(named("feed", feed(orders, signals.clone())));

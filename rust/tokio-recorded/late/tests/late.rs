@@ -56,14 +56,19 @@ async fn audited(audit: tokio::task::JoinHandle<bool>) {
     assert!(!audit.await.unwrap(), "orders were lost");
 }
 
+/// Has a task feed, and fails if the audit has lost orders.
+async fn fed(orders: Sender<u32>, sent: Sent, audit: tokio::task::JoinHandle<bool>) {
+    tokio::spawn(feed(orders, sent));
+    audited(audit).await;
+}
+
 #[tokio::test]
 async fn mutex() {
     let _recorder = Recorder::for_test("mutex");
     let (orders, mut rx) = broadcast::channel(2);
     let db = Db::default();
     let rows = db.0.clone();
-    let sent = Sent::default();
-    let overwritten = sent.clone();
+    let [sent, overwritten] = Sent::shared();
     let audit = tokio::spawn(named("audit", async move {
         let mut lagged = false;
         while let Some(id) = next(&mut rx, &mut lagged).await {
@@ -86,8 +91,7 @@ async fn rwlock() {
     let (orders, mut rx) = broadcast::channel(2);
     let rows = Arc::new(RwLock::new(vec![]));
     let read = rows.clone();
-    let sent = Sent::default();
-    let overwritten = sent.clone();
+    let [sent, overwritten] = Sent::shared();
     let audit = tokio::spawn(async move {
         let mut lagged = false;
         while let Some(id) = next(&mut rx, &mut lagged).await {
@@ -100,8 +104,7 @@ async fn rwlock() {
         overwritten.reaches(5).await;
         drop(locked); // @rwlock_released
     }));
-    tokio::spawn(feed(orders, sent));
-    audited(audit).await;
+    fed(orders, sent, audit).await;
 }
 
 #[tokio::test]
@@ -110,8 +113,7 @@ async fn semaphore() {
     let (orders, mut rx) = broadcast::channel(2);
     let slots = Arc::new(Semaphore::new(1));
     let taken = slots.clone();
-    let sent = Sent::default();
-    let overwritten = sent.clone();
+    let [sent, overwritten] = Sent::shared();
     let audit = tokio::spawn(async move {
         let mut lagged = false;
         while next(&mut rx, &mut lagged).await.is_some() {
@@ -124,8 +126,7 @@ async fn semaphore() {
         overwritten.reaches(5).await;
         drop(slot); // @semaphore_released
     }));
-    tokio::spawn(feed(orders, sent));
-    audited(audit).await;
+    fed(orders, sent, audit).await;
 }
 
 #[tokio::test]
@@ -134,8 +135,7 @@ async fn notify() {
     let (orders, mut rx) = broadcast::channel(2);
     let bell = Arc::new(Notify::new());
     let rung = bell.clone();
-    let sent = Sent::default();
-    let overwritten = sent.clone();
+    let [sent, overwritten] = Sent::shared();
     let audit = tokio::spawn(async move {
         let mut lagged = false;
         while next(&mut rx, &mut lagged).await.is_some() {
@@ -147,16 +147,14 @@ async fn notify() {
         overwritten.reaches(5).await;
         bell.notify_one(); // @notify_rung
     }));
-    tokio::spawn(feed(orders, sent));
-    audited(audit).await;
+    fed(orders, sent, audit).await;
 }
 
 #[tokio::test]
 async fn oneshot_answer() {
     let _recorder = Recorder::for_test("oneshot_answer");
     let (orders, mut rx) = broadcast::channel(2);
-    let sent = Sent::default();
-    let overwritten = sent.clone();
+    let [sent, overwritten] = Sent::shared();
     let (ask, mut asked) = mpsc::channel::<oneshot::Sender<()>>(4);
     let audit = tokio::spawn(async move {
         let mut lagged = false;
@@ -173,16 +171,14 @@ async fn oneshot_answer() {
             answer.send(()).unwrap(); // @oneshot_sent
         }
     }));
-    tokio::spawn(feed(orders, sent));
-    audited(audit).await;
+    fed(orders, sent, audit).await;
 }
 
 #[tokio::test]
 async fn full_mpsc() {
     let _recorder = Recorder::for_test("full_mpsc");
     let (orders, mut rx) = broadcast::channel(2);
-    let sent = Sent::default();
-    let overwritten = sent.clone();
+    let [sent, overwritten] = Sent::shared();
     let (lines, mut written) = mpsc::channel::<u32>(1);
     let audit = tokio::spawn(async move {
         let mut lagged = false;
@@ -195,8 +191,7 @@ async fn full_mpsc() {
         overwritten.reaches(6).await;
         while written.recv().await.is_some() {} // @mpsc_recv
     }));
-    tokio::spawn(feed(orders, sent));
-    audited(audit).await;
+    fed(orders, sent, audit).await;
 }
 
 #[tokio::test]
@@ -210,8 +205,7 @@ async fn sleep() {
         }
         lagged
     });
-    tokio::spawn(feed(orders, Sent::default()));
-    audited(audit).await;
+    fed(orders, Sent::default(), audit).await;
 }
 
 #[tokio::test]
@@ -227,8 +221,7 @@ async fn interval() {
         }
         lagged
     });
-    tokio::spawn(feed(orders, Sent::default()));
-    audited(audit).await;
+    fed(orders, Sent::default(), audit).await;
 }
 
 #[tokio::test]
@@ -243,8 +236,7 @@ async fn timeout() {
         }
         lagged
     });
-    tokio::spawn(feed(orders, Sent::default()));
-    audited(audit).await;
+    fed(orders, Sent::default(), audit).await;
 }
 
 #[tokio::test]
@@ -252,8 +244,7 @@ async fn tcp() {
     let _recorder = Recorder::for_test("tcp");
     let listener = tokio::net::TcpListener::bind("127.0.0.1:0").await.unwrap();
     let address = listener.local_addr().unwrap();
-    let sent = Sent::default();
-    let overwritten = sent.clone();
+    let [sent, overwritten] = Sent::shared();
     tokio::spawn(named("server", async move {
         let (mut stream, _) = listener.accept().await.unwrap();
         let mut byte = [0];
@@ -273,16 +264,14 @@ async fn tcp() {
         }
         lagged
     });
-    tokio::spawn(feed(orders, sent));
-    audited(audit).await;
+    fed(orders, sent, audit).await;
 }
 
 #[tokio::test]
 async fn blocking() {
     let _recorder = Recorder::for_test("blocking");
     let (orders, mut rx) = broadcast::channel(2);
-    let sent = Sent::default();
-    let overwritten = sent.clone();
+    let [sent, overwritten] = Sent::shared();
     let audit = tokio::spawn(async move {
         let mut lagged = false;
         while next(&mut rx, &mut lagged).await.is_some() {
@@ -292,16 +281,14 @@ async fn blocking() {
         }
         lagged
     });
-    tokio::spawn(feed(orders, sent));
-    audited(audit).await;
+    fed(orders, sent, audit).await;
 }
 
 #[tokio::test]
 async fn join_handle() {
     let _recorder = Recorder::for_test("join_handle");
     let (orders, mut rx) = broadcast::channel(2);
-    let sent = Sent::default();
-    let overwritten = sent.clone();
+    let [sent, overwritten] = Sent::shared();
     let audit = tokio::spawn(async move {
         let mut lagged = false;
         while next(&mut rx, &mut lagged).await.is_some() {
@@ -311,8 +298,7 @@ async fn join_handle() {
         }
         lagged
     });
-    tokio::spawn(feed(orders, sent));
-    audited(audit).await;
+    fed(orders, sent, audit).await;
 }
 
 #[tokio::test]
@@ -342,8 +328,7 @@ async fn worked() {
     let recorder = Recorder::for_test("worked");
     let (orders, mut rx) = broadcast::channel(2);
     recorder.show(&orders, |id| format!("order {id}"));
-    let sent = Sent::default();
-    let overwritten = sent.clone();
+    let [sent, overwritten] = Sent::shared();
     let audit = tokio::spawn(async move {
         let mut lagged = false;
         loop {
@@ -358,8 +343,7 @@ async fn worked() {
             }
         }
     });
-    tokio::spawn(feed(orders, sent));
-    audited(audit).await;
+    fed(orders, sent, audit).await;
 }
 
 #[tokio::test]
@@ -433,8 +417,7 @@ async fn select_branch() {
             }
         }
     });
-    tokio::spawn(feed(orders, Sent::default()));
-    audited(audit).await;
+    fed(orders, Sent::default(), audit).await;
 }
 
 #[tokio::test]
@@ -453,8 +436,7 @@ async fn stream_then() {
         while let Some(Ok(_)) = stored.next().await {}
         true
     });
-    tokio::spawn(feed(orders, Sent::default()));
-    audited(audit).await;
+    fed(orders, Sent::default(), audit).await;
 }
 
 #[tokio::test]
@@ -469,8 +451,7 @@ async fn stream_concurrent() {
         received.for_each_concurrent(1, |_| wait(100)).await; // @concurrent_waits
         true
     });
-    tokio::spawn(feed(orders, Sent::default()));
-    audited(audit).await;
+    fed(orders, Sent::default(), audit).await;
 }
 
 #[tokio::test]
@@ -510,8 +491,7 @@ async fn join_all() {
         }
         lagged
     });
-    tokio::spawn(feed(orders, Sent::default()));
-    audited(audit).await;
+    fed(orders, Sent::default(), audit).await;
 }
 
 #[tokio::test(flavor = "multi_thread", worker_threads = 2)]
@@ -544,8 +524,7 @@ async fn main_receives() {
     let (orders, mut rx) = broadcast::channel(2);
     let bell = Arc::new(Notify::new());
     let rung = bell.clone();
-    let sent = Sent::default();
-    let overwritten = sent.clone();
+    let [sent, overwritten] = Sent::shared();
     tokio::spawn(feed(orders, sent));
     tokio::spawn(named("ringer", async move {
         overwritten.reaches(5).await;
@@ -579,8 +558,7 @@ async fn local_set() {
 async fn unpolled() {
     let _recorder = Recorder::for_test("unpolled");
     let (orders, mut rx) = broadcast::channel(2);
-    let sent = Sent::default();
-    let overwritten = sent.clone();
+    let [sent, overwritten] = Sent::shared();
     tokio::spawn(feed(orders, sent));
     let mut audit = Box::pin(named("audit", async move {
         let mut lagged = false;
@@ -633,16 +611,14 @@ async fn paused() {
         }
         lagged
     });
-    tokio::spawn(feed(orders, Sent::default()));
-    audited(audit).await;
+    fed(orders, Sent::default(), audit).await;
 }
 
 #[tokio::test]
 async fn thread_receives() {
     let _recorder = Recorder::for_test("thread_receives");
     let (orders, mut rx) = broadcast::channel(2);
-    let sent = Sent::default();
-    let overwritten = sent.clone();
+    let [sent, overwritten] = Sent::shared();
     let audit = std::thread::spawn(move || {
         loop {
             match rx.blocking_recv() {

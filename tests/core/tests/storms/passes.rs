@@ -8,7 +8,7 @@ use crate::channels::{
 };
 use crate::generator::Generator;
 use crate::making::Opened;
-use crate::receipts::{Receipts, agree};
+use crate::receipts::{Receipts, assert_agree};
 use crate::seeds;
 use crate::waiting::{wait_for_end, were_told};
 use proved::Global;
@@ -98,18 +98,14 @@ fn play_seed(seed: u64) {
     let desk = Opened { desk, ends };
     prepare(&desk, &mut passes[0]);
     let (passes, told) = act_all(&desk, passes, seed);
-    let receipts = passes.iter().map(|pass| Receipts {
-        actor: pass.actor(),
-        kept: pass.kept().to_vec(),
-    });
+    let receipts = passes
+        .iter()
+        .map(|pass| Receipts::of(pass.actor(), pass.kept()));
     let receipts: Vec<_> = receipts.collect();
     let Ok(run) = desk.desk.close(Global, passes.into_iter().collect()) else {
         panic!("seed {seed}: the desk does not close");
     };
-    assert!(
-        agree(&run, &receipts),
-        "seed {seed}: receipts are not the entries"
-    );
+    assert_agree(seed, &run, &receipts);
     assert!(
         were_told(&run, &told),
         "seed {seed}: a call was not made, or a value was missed"

@@ -5,12 +5,22 @@ use proved::rw_journal::Run;
 
 /// A copy of an actor's receipts, which outlives its pass.
 pub struct Receipts {
-    pub actor: u32,
-    pub kept: Vec<Kept<u64>>,
+    actor: u32,
+    kept: Vec<Kept<u64>>,
 }
 
-/// Whether each actor's receipts are its entries: as many, in the same order, with the same calls, replies and stamps.
-pub fn agree(run: &Run<u64>, all: &[Receipts]) -> bool {
+impl Receipts {
+    pub fn of(actor: u32, kept: &[Kept<u64>]) -> Receipts {
+        let kept = kept.to_vec();
+        Receipts { actor, kept }
+    }
+}
+
+/// Asserts that each actor's receipts are its entries: as many, in the same order, with the same calls, replies and stamps.
+pub fn assert_agree(seed: u64, run: &Run<u64>, all: &[Receipts]) {
     let differs = |of: &Receipts| compare(run, of.actor, &of.kept).is_some();
-    !all.iter().any(differs)
+    assert!(
+        !all.iter().any(differs),
+        "seed {seed}: receipts are not the entries"
+    );
 }

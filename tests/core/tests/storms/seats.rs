@@ -3,7 +3,7 @@
 
 use crate::channels::{OWN_HANDLES, SECOND_HANDLES, SPECS};
 use crate::notes::{Notes, SEATS, are_places};
-use crate::receipts::{Receipts, agree};
+use crate::receipts::{Receipts, assert_agree};
 use crate::seeds;
 use proved::rw_seat::{DeskSeat, SeatDesk};
 use proved::rw_world::ChanCall;
@@ -109,18 +109,14 @@ fn play_seed(seed: u64) {
         .into_iter()
         .map(|player| (player.seat, player.notes))
         .unzip();
-    let receipts = seats.iter().map(|seat| Receipts {
-        actor: seat.actor(),
-        kept: seat.kept().to_vec(),
-    });
+    let receipts = seats
+        .iter()
+        .map(|seat| Receipts::of(seat.actor(), seat.kept()));
     let receipts: Vec<_> = receipts.collect();
     let Ok(run) = desk.close(&RT, Global, seats.into_iter().collect()) else {
         panic!("seed {seed}: the desk does not close");
     };
-    assert!(
-        agree(&run, &receipts),
-        "seed {seed}: receipts are not the entries"
-    );
+    assert_agree(seed, &run, &receipts);
     assert!(
         are_places(&run, &notes),
         "seed {seed}: a front is not its entry's place, or fell"

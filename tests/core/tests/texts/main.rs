@@ -4,6 +4,7 @@
 //! documentation, not from the code. `texts/rows.rs` has a script for each worked row of the channels.
 
 mod devices;
+mod findings;
 mod flights;
 mod journals;
 mod lines;

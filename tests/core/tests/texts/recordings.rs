@@ -1,10 +1,11 @@
 //! Channels with recorded calls: what a call returns, the text of their run, and what is found in it.
 
+use crate::findings::{closing, late, loss, of_broadcast, of_watch};
 use proved::Global;
 use proved::rw_recording::{
-    BCall, BReply, BroadcastCounts, ChanCall, ChanReply, Closing, Counts, Cut, CutFault, Findings,
-    Flight, Kind, LateReader, Loss, LossEnd, OpenFault, Recording, RunReader, Spec, TakeFault,
-    TextFault, Totals, WCall, WReply, WatchCounts,
+    BCall, BReply, ChanCall, ChanReply, Closing, Cut, CutFault, Findings, Flight, Kind, LateReader,
+    Loss, LossEnd, OpenFault, Recording, RunReader, Spec, TakeFault, TextFault, Totals, WCall,
+    WReply,
 };
 
 /// A call and its result.
@@ -83,49 +84,16 @@ static CALLS: [(u64, ChanCall<u64>); 6] = [
     (6, ChanCall::B(BCall::DropHandle(0))),
 ];
 
-static LOSSES: [Loss; 1] = [Loss {
-    channel: 0,
-    receiver: 1,
-    from: 4,
-    lost: 1,
-    end: LossEnd::Told(5),
-}];
+static LOSSES: [Loss; 1] = [loss(0, 1, (4, 1), LossEnd::Told(5))];
 
 static TOTALS: [Totals; 2] = [
-    Totals {
-        channel: 0,
-        receiver: 1,
-        counts: Counts::Broadcast(BroadcastCounts {
-            received: 0,
-            told: 1,
-            lost: 1,
-            worst: 1,
-            worst_place: 4,
-            unread: Some(2),
-        }),
-    },
-    Totals {
-        channel: 1,
-        receiver: 1,
-        counts: Counts::Watch(WatchCounts {
-            changes: 0,
-            missed: 1,
-            unlooked: 1,
-        }),
-    },
+    of_broadcast(0, 1, [0, 1, 1, 1, 4], Some(2)),
+    of_watch(1, 1, [0, 1, 1]),
 ];
 
-static CLOSINGS: [Closing; 1] = [Closing {
-    channel: 0,
-    place: 6,
-}];
+static CLOSINGS: [Closing; 1] = [closing(0, 6)];
 
-static LATE: [LateReader; 1] = [LateReader {
-    channel: 0,
-    receiver: 1,
-    told: None,
-    read_on: 0,
-}];
+static LATE: [LateReader; 1] = [late(0, 1, None, 0)];
 
 /// Makes a call by actor 0.
 fn made(

@@ -15,6 +15,10 @@ use yovanelum_dap::{Options, serve};
 /// How long an answer may take. It is far more than any takes.
 const PATIENCE: Duration = Duration::from_secs(120);
 
+/// The threads of the bus: the ticker makes the first call.
+pub const TICKER: u64 = 1;
+pub const AUDITOR: u64 = 2;
+
 /// How many random runs are made: this many, or as many as the variable `YOVANELUM_RUNS` says.
 pub fn runs(usual: u64) -> u64 {
     let wanted = std::env::var("YOVANELUM_RUNS").ok();
@@ -293,4 +297,15 @@ pub fn save_bus(folder: &Folder, name: &str) -> (PathBuf, Lines) {
     let path = folder.path(&format!("{name}.journal"));
     recorder.save(&path).unwrap();
     (path, Lines { send, recv })
+}
+
+/// Launches the bus, whose calls 1 to 3 are sends, 4 and 9 drops, and 5 to 8 receives, of which the
+/// first is told that it lagged. These are arguments beside its journal.
+pub fn launched(mut arguments: Value) -> (Folder, Client, Lines) {
+    let folder = Folder::new();
+    let (journal, lines) = save_bus(&folder, "bus");
+    arguments["journal"] = json!(journal);
+    let mut client = Client::new(false);
+    client.launch(arguments);
+    (folder, client, lines)
 }

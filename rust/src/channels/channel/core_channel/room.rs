@@ -6,6 +6,7 @@ use crate::channels::backend::Recording;
 use crate::channels::channel::machine::Machine;
 use crate::channels::channel::numbers::Place;
 use crate::core::shim::Vec as CoreVec;
+use crate::run::listed::IntoList;
 use crate::run::reply::Reply;
 use std::{iter, mem};
 
@@ -25,7 +26,7 @@ impl CoreChannel {
         self.first.look_when_full();
         let numbers = (0..self.first.made()).map(|handle| self.first.number(handle));
         Some((
-            numbers.collect(),
+            numbers.listed(),
             self.numbers.all_created(self.first.made()),
         ))
     }

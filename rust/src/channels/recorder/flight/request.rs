@@ -183,7 +183,8 @@ impl DumpRequest {
             let written = panic::catch_unwind(AssertUnwindSafe(|| (self.write)(&mut self)));
             self.end(written.unwrap_or_else(|_| Err(io::Error::other("it panicked"))));
         };
-        let spawned = named.spawn(|| without_giving_back(write));
+        let write: Box<dyn FnOnce() + Send> = Box::new(|| without_giving_back(write));
+        let spawned = named.spawn(write);
         if let Err(error) = spawned {
             let error = io::Error::new(error.kind(), format!("no thread for it: {error}"));
             let _ = told.send(count(&recorder, Err(error)));

@@ -86,13 +86,8 @@ mod tests {
     /// A schedule of this many polls, behind which a timer is let end or not.
     fn schedule(polls: usize, has_time: bool) -> Schedule {
         let step = |what| Step {
-            chosen: 0,
-            count: 2,
-            turn: Turn::Free,
             what,
-            at: None,
-            who: "a".into(),
-            waited_for: None,
+            ..Step::poll_of("a", Turn::Free)
         };
         let mut schedule = Schedule::new(String::new());
         schedule.steps = (0..polls).map(|_| step(What::Poll)).collect();

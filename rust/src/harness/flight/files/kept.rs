@@ -1,8 +1,10 @@
 //! Which dumps of a folder stay.
 
 use super::{START, time_in_digits};
+use crate::run::by_text::TextMap;
+use crate::run::listed::IntoList;
+use crate::run::sorting::sort_by;
 use std::cmp::Ordering;
-use std::collections::BTreeMap;
 use std::path::{Path, PathBuf};
 use std::time::Duration;
 use std::{fs, io, process};
@@ -63,7 +65,7 @@ pub(in crate::harness::flight) fn keep(written: &Path, keep: usize, now: Option<
             return;
         }
     };
-    let whole = dumps.values().filter(|dump| dump.is_whole).count();
+    let whole = dumps.iter().filter(|(_, dump)| dump.is_whole).count();
     let mut too_many = whole.saturating_sub(keep);
     for (RemovalOrder { age, name, .. }, dump) in dumps {
         let goes = if dump.is_whole {
@@ -88,13 +90,13 @@ fn remove(path: &Path) {
     }
 }
 
-/// Returns the dumps of a folder.
+/// Returns the dumps of a folder, in the order in which they are removed.
 fn dumps_in(
     folder: &Path,
     written: &Path,
     now: Option<u64>,
-) -> io::Result<BTreeMap<RemovalOrder, DumpFiles>> {
-    let mut dumps: BTreeMap<_, DumpFiles> = BTreeMap::new();
+) -> io::Result<Vec<(RemovalOrder, DumpFiles)>> {
+    let mut dumps = TextMap::new();
     for file in fs::read_dir(folder)?.flatten() {
         let name = file.file_name();
         let Some((name, ending)) = name.to_str().and_then(dump_of) else {
@@ -107,10 +109,14 @@ fn dumps_in(
         } else {
             Age::Older
         };
-        let dump = dumps.entry(RemovalOrder::of(age, name)).or_default();
+        let begin = || (RemovalOrder::of(age, name), DumpFiles::default());
+        let (_, dump) = dumps.get_or_insert_with(name, begin);
         dump.files.push(file.path());
         dump.is_whole |= ending == "journal";
     }
+    let dumps = dumps.into_items().into_iter();
+    let mut dumps: Vec<_> = dumps.map(|(_, dump)| dump).listed();
+    sort_by(&mut dumps, |(one, _), (other, _)| one.cmp(other));
     Ok(dumps)
 }
 
@@ -158,6 +164,7 @@ fn is_left(files: &[PathBuf]) -> bool {
 mod tests {
     use super::super::write;
     use super::*;
+    use crate::temporary::{files_in, fresh};
     use std::time::SystemTime;
 
     const DAYS: [&str; 3] = [
@@ -166,23 +173,8 @@ mod tests {
         "20260102T000000000Z-7-9",
     ];
 
-    fn folder(name: &str) -> PathBuf {
-        let folder = crate::temporary::path(name);
-        let _ = fs::remove_dir_all(&folder);
-        folder
-    }
-
     fn write_dump(folder: &Path, dump: &str) -> PathBuf {
         write(&folder.join(format!("{START}{dump}")), "j", "n").unwrap()
-    }
-
-    fn files_in(folder: &Path) -> Vec<String> {
-        let files = fs::read_dir(folder).unwrap();
-        let mut files: Vec<_> = files
-            .map(|it| it.unwrap().file_name().into_string().unwrap())
-            .collect();
-        files.sort();
-        files
     }
 
     /// Returns the files of these dumps and these others.
@@ -205,7 +197,7 @@ mod tests {
 
     #[test]
     fn the_last_dumps_stay_and_what_is_no_dump() {
-        let folder = folder("flight-kept");
+        let folder = fresh("flight-kept");
         let paths = DAYS.map(|dump| write_dump(&folder, dump));
         let others = [
             "flight-1.journal",
@@ -225,7 +217,7 @@ mod tests {
 
     #[test]
     fn dumps_of_one_millisecond_are_in_the_order_of_their_numbers() {
-        let folder = folder("flight-numbers");
+        let folder = fresh("flight-numbers");
         let dumps = [9, 10, 11].map(|number| format!("20260101T000000000Z-9-{number}"));
         let paths = dumps.each_ref().map(|dump| write_dump(&folder, dump));
         keep(&paths[2], 2, None);
@@ -235,7 +227,7 @@ mod tests {
 
     #[test]
     fn what_killed_processes_have_left_displaces_no_dump_and_goes() {
-        let folder = folder("flight-left");
+        let folder = fresh("flight-left");
         let paths = DAYS.map(|dump| write_dump(&folder, dump));
         let part = |process: u32, number: u32| {
             let name = format!("{START}20260103T000000000Z-{process}-{number}.names");
@@ -267,7 +259,7 @@ mod tests {
 
     #[test]
     fn dumps_of_before_the_clock_was_set_back_go_first() {
-        let folder = folder("flight-set-back");
+        let folder = fresh("flight-set-back");
         let paths = DAYS.map(|dump| write_dump(&folder, dump));
         // 1 January 2026, a millisecond after the first one of that day, which was written last.
         let now = 1_767_225_600_001;

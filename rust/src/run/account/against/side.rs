@@ -3,21 +3,22 @@
 use super::super::history::History;
 use super::super::naming::Naming;
 use super::Both;
+use crate::run::by_text::TextMap;
 use crate::run::journal::{Run, RunEntry, Spec};
+use crate::run::listed::IntoList;
 use crate::run::numbered::NumberMap;
 use crate::run::operation::{CallSet, Kind, Operation};
 use crate::run::reply::Reply;
 use crate::run::sidecar::Sidecar;
-use std::collections::BTreeMap;
 
 /// The things of both runs, by a text that is the same in both.
 #[derive(Default)]
-pub(super) struct Keys(BTreeMap<String, u32>);
+pub(super) struct Keys(TextMap<u32>);
 
 impl Keys {
     fn of(&mut self, text: String) -> u32 {
         let next = self.0.len() as u32;
-        *self.0.entry(text).or_insert(next)
+        *self.0.get_or_insert_with(&text, || next)
     }
 }
 
@@ -74,7 +75,7 @@ pub(super) struct Side<'a> {
     // By actor, the caller that it is.
     callers: NumberMap<u32, u32>,
     // How many actors that are called the same have made a call.
-    labels: BTreeMap<String, u32>,
+    labels: TextMap<u32>,
     both: Both,
 }
 
@@ -87,10 +88,10 @@ impl<'a> Side<'a> {
             calls: Vec::with_capacity(run.len() as usize),
             channels: specs
                 .map(|(number, spec)| SideChannel::of((names, number), spec, both, keys))
-                .collect(),
+                .listed(),
             places: NumberMap::new(),
             callers: NumberMap::new(),
-            labels: BTreeMap::new(),
+            labels: TextMap::new(),
             both,
         };
         for (place, entry) in run.entries() {
@@ -196,7 +197,7 @@ impl<'a> Side<'a> {
             return *caller;
         }
         let label = self.label_of(place, entry);
-        let before = self.labels.entry(label.clone()).or_default();
+        let before = self.labels.get_or_default(&label);
         let caller = keys.of(format!("caller {before} {label}"));
         *before += 1;
         self.callers.insert(entry.actor, caller);
@@ -297,7 +298,7 @@ impl SideChannel {
                     kind,
                     key: keys.of(handle_text(names, number, handle)),
                 })
-                .collect(),
+                .listed(),
             made: NumberMap::new(),
         }
     }

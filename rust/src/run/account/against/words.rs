@@ -3,6 +3,7 @@
 use super::super::columns::{Cells, aligned};
 use super::side::{Side, SideCall, SideChannel};
 use super::{Differing, DiffersBy, visible};
+use crate::run::listed::{IntoList, PushAll};
 use crate::run::operation::Operation;
 use crate::run::reply::Reply;
 use crate::run::sorting::sort_by_key;
@@ -27,7 +28,7 @@ pub(super) fn lines(here: &Side<'_>, there: &Side<'_>, differing: &[Differing]) 
     };
     let mut lines = vec![head(here, there, first, about.as_ref())];
     let rows = rows(here, there, first, about.as_ref());
-    lines.extend(aligned(rows.iter()));
+    lines.push_all(aligned(rows.iter()));
     lines.push(counts);
     lines
 }
@@ -58,8 +59,8 @@ fn about(here: &Side<'_>, there: &Side<'_>, a: u64, b: u64) -> About {
 /// Returns the columns of the calls that tell of a difference, in the order of each run.
 fn rows(here: &Side<'_>, there: &Side<'_>, first: &Differing, about: Option<&About>) -> Vec<Cells> {
     let mut places = [vec![], vec![]];
-    places[0].extend(first.here);
-    places[1].extend(first.there);
+    places[0].push_all(first.here);
+    places[1].push_all(first.there);
     if let Some(about) = about {
         let sides = [here, there];
         let own = usize::from(!about.is_here);
@@ -67,14 +68,14 @@ fn rows(here: &Side<'_>, there: &Side<'_>, first: &Differing, about: Option<&Abo
         if sides[own].has_call(about.place) {
             let partner = sides[1 - own].partner_of(sides[own].call(about.place));
             places[own].push(about.place);
-            places[1 - own].extend(partner);
+            places[1 - own].push_all(partner);
         }
     }
     let mut rows = vec![];
     for ((word, side), mut places) in [("here", here), ("there", there)].into_iter().zip(places) {
         sort_by_key(&mut places, |place| *place);
         places.dedup();
-        rows.extend(places.into_iter().map(|place| cells(word, side, place)));
+        rows.push_all(places.into_iter().map(|place| cells(word, side, place)));
     }
     rows
 }
@@ -194,7 +195,7 @@ fn counts(here: &Side<'_>, there: &Side<'_>, differing: &[Differing]) -> String 
     let parts = parts.iter().filter(|(count, _)| *count > 0);
     let parts: Vec<_> = parts
         .map(|(count, what)| format!("{count} {what}"))
-        .collect();
+        .listed();
     format!(
         "{} here, {} there: {}",
         visible::counted(here.len(), "call"),

@@ -4,6 +4,7 @@
 use super::stretches::{self, TaskDoing};
 use super::texts::{LateTexts, waited_at};
 use crate::run::account::Context;
+use crate::run::listed::IntoList;
 use crate::run::sidecar::SeenPoll;
 use crate::run::sorting::sort_by_key;
 
@@ -34,7 +35,7 @@ pub(in crate::run::account) fn all(context: &Context<'_>) -> Vec<PendingTask> {
         let waits = stretch.doing != TaskDoing::Polled && is_elsewhere(poll);
         waits.then_some((task, stretch))
     });
-    let mut last: Vec<_> = last.collect();
+    let mut last: Vec<_> = last.listed();
     sort_by_key(&mut last, |(_, stretch)| stretch.times.0);
     let pending = last.into_iter().map(|(task, stretch)| {
         let poll = &task.polls[stretch.index];
@@ -68,5 +69,5 @@ pub(in crate::run::account) fn all(context: &Context<'_>) -> Vec<PendingTask> {
             since,
         }
     });
-    pending.collect()
+    pending.listed()
 }

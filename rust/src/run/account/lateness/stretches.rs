@@ -1,6 +1,7 @@
 //! The time of a task, in stretches: it is polled, then it waits until it is woken, and then it is
 //! ready until it is polled again.
 
+use crate::run::listed::IntoList;
 use crate::run::sidecar::SeenTask;
 
 /// What a task does.
@@ -86,7 +87,7 @@ pub(super) fn within(task: &SeenTask, window: (u64, u64), now: u64) -> Vec<Stret
     let stretches = polls.flat_map(|(index, _)| from_poll(task, index, now));
     stretches
         .filter(|stretch| stretch.is_within(window))
-        .collect()
+        .listed()
 }
 
 /// Returns the stretch in which the call with this stamp would be made.

@@ -2,6 +2,7 @@
 
 use super::stretches::Stretch;
 use crate::run::account::{Context, visible};
+use crate::run::listed::IntoList;
 use crate::run::sidecar::{
     SeenPlace, SeenPoll, SeenTask, SeenWake, SourceLocation, TasksSeen, WokenBy,
 };
@@ -84,7 +85,7 @@ impl<'a> LateTexts<'a> {
         let texts: Vec<_> = places
             .iter()
             .filter_map(|place| self.place(*place))
-            .collect();
+            .listed();
         match texts.as_slice() {
             [] => String::new(),
             texts => format!(" in {}", visible::first(texts, MOST_PLACES, " or ")),

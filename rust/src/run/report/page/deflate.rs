@@ -4,6 +4,7 @@
 mod codes;
 mod matches;
 
+use crate::run::listed::PushAll;
 use codes::{Codes, lengths_of};
 use matches::{Matches, Token};
 
@@ -40,7 +41,7 @@ pub(super) fn packed(bytes: &[u8]) -> Vec<u8> {
     let mut tokens = Vec::with_capacity(BLOCK);
     loop {
         tokens.clear();
-        tokens.extend(matches.by_ref().take(BLOCK));
+        tokens.push_all(matches.by_ref().take(BLOCK));
         let is_last = tokens.len() < BLOCK;
         push_block(&mut out, &tokens, is_last);
         if is_last {
@@ -48,7 +49,7 @@ pub(super) fn packed(bytes: &[u8]) -> Vec<u8> {
         }
     }
     let mut packed = out.bytes();
-    packed.extend(checksum(bytes).to_be_bytes());
+    packed.push_all(checksum(bytes).to_be_bytes());
     packed
 }
 
@@ -110,7 +111,7 @@ fn runs_of(lengths: &[u8]) -> Vec<(usize, usize)> {
             symbols.push((ZEROS, zeros));
             left -= zeros;
         }
-        symbols.extend(vec![(run[0].into(), 1); left]);
+        symbols.push_all(vec![(run[0].into(), 1); left]);
     }
     symbols
 }
@@ -153,7 +154,7 @@ impl Bits {
         self.open |= value << self.count;
         self.count += bits;
         if self.count >= 32 {
-            self.bytes.extend((self.open as u32).to_le_bytes());
+            self.bytes.push_all((self.open as u32).to_le_bytes());
             self.open >>= 32;
             self.count -= 32;
         }

@@ -2,6 +2,7 @@
 
 use super::ExplorerState;
 use crate::channels::actors::is_over_facade;
+use crate::run::listed::{IntoList, PushAll};
 use crate::schedule::explore::threads::{SOON, Sleeper};
 use std::thread;
 use std::time::{Duration, Instant};
@@ -68,7 +69,7 @@ impl ExplorerState {
         let ended = self.clock.ended();
         if !ended.is_empty() {
             self.moved();
-            self.wakers.extend(ended);
+            self.wakers.push_all(ended);
         }
     }
 
@@ -77,7 +78,7 @@ impl ExplorerState {
     pub(in crate::schedule::explore) fn runs_on(&mut self) -> Option<Duration> {
         let blocked = self.stands.iter();
         let blocked = blocked.filter(|stand| stand.is_blocking() && !stand.is_chosen);
-        let blocked: Vec<_> = blocked.map(|stand| stand.thread).collect();
+        let blocked: Vec<_> = blocked.map(|stand| stand.thread).listed();
         let is_left_out = |thread| blocked.contains(&thread);
         let ran = self.threads.longest_run(self.moves, is_left_out);
         Some(ran).filter(|ran| *ran > PATIENCE_RUNNING)

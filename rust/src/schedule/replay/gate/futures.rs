@@ -137,9 +137,8 @@ impl Gate {
         let now = state.clock.now();
         let idle = |since: Time| now.since(since.max(turned_at));
         let limit = self.patience * PATIENCE_OF_FUTURES;
-        let mut waiters = state.waiters.values();
-        if let Some(late) = waiters.find(|waiter| idle(waiter.since) >= limit) {
-            let coming = late.coming;
+        let late = (state.waiters.values()).find(|waiter| idle(waiter.since) >= limit);
+        if let Some(coming) = late.map(|waiter| waiter.coming) {
             return self.diverge(state, CameInstead::Nothing(limit), Some(&coming));
         }
         for actor in 0..Actor::MOST {

@@ -13,7 +13,6 @@ use std::thread;
 use std::time::Duration;
 
 #[test]
-#[cfg_attr(target_family = "wasm", ignore = "WebAssembly has no threads")]
 fn another_call_parts_at_once() {
     let gate = gate();
     // The next call of this receiver is a receive that waits. It isn't the audit's turn, so it
@@ -27,7 +26,6 @@ fn another_call_parts_at_once() {
 }
 
 #[test]
-#[cfg_attr(target_family = "wasm", ignore = "WebAssembly has no threads")]
 fn another_call_of_the_actor_whose_turn_it_is_parts_soon() {
     let gate = gate();
     // The journal has no such handle.
@@ -47,7 +45,6 @@ fn another_call_of_the_actor_whose_turn_it_is_parts_soon() {
 }
 
 #[test]
-#[cfg_attr(target_family = "wasm", ignore = "WebAssembly has no threads")]
 fn a_call_that_would_wait_at_its_turn_diverges() {
     let gate = gate();
     make_first(&gate, 1);
@@ -60,7 +57,6 @@ fn a_call_that_would_wait_at_its_turn_diverges() {
 }
 
 #[test]
-#[cfg_attr(target_family = "wasm", ignore = "WebAssembly has no threads")]
 fn a_thread_goes_on_where_nothing_comes_for_too_long() {
     let gate = gate_of(JOURNAL, NAMES, Duration::from_millis(5));
     make(&gate, call(NOBODY, 0, Operation::Send, 0));
@@ -70,7 +66,6 @@ fn a_thread_goes_on_where_nothing_comes_for_too_long() {
 }
 
 #[test]
-#[cfg_attr(target_family = "wasm", ignore = "WebAssembly has no threads")]
 fn a_future_goes_on_where_nothing_comes_for_too_long() {
     let gate = gate_of(JOURNAL, NAMES, Duration::from_millis(5));
     let (_, waker, woken) = told();
@@ -85,7 +80,6 @@ fn a_future_goes_on_where_nothing_comes_for_too_long() {
 }
 
 #[test]
-#[cfg_attr(target_family = "wasm", ignore = "WebAssembly has no threads")]
 fn of_two_futures_the_one_that_has_waited_too_long_is_told() {
     let gate = gate_without_helper(JOURNAL, Duration::from_millis(5));
     let (_, waker, _woken) = told();
@@ -105,7 +99,6 @@ fn of_two_futures_the_one_that_has_waited_too_long_is_told() {
 }
 
 #[test]
-#[cfg_attr(target_family = "wasm", ignore = "WebAssembly has no threads")]
 fn a_thread_that_keeps_the_turn_away_waits_for_a_short_time() {
     let gate = gate_of(JOURNAL, NAMES, Duration::from_secs(10));
     make_first(&gate, 2);
@@ -117,7 +110,6 @@ fn a_thread_that_keeps_the_turn_away_waits_for_a_short_time() {
 }
 
 #[test]
-#[cfg_attr(target_family = "wasm", ignore = "WebAssembly has no threads")]
 fn a_call_is_no_call_of_the_same_handle_of_another_channel() {
     let journal = "ttd-journal 2\nbroadcast 4\nbroadcast 4\nsteps\n\
         1 0 0 send 0 0 = sent 1\n2 0 1 send 0 0 = sent 1\nend\n";
@@ -134,7 +126,6 @@ const NAME_TASKS: &str = "; tasks without a name make calls, and a replay can't 
     for the test's body, and record again";
 
 #[test]
-#[cfg_attr(target_family = "wasm", ignore = "WebAssembly has no threads")]
 fn tasks_of_the_journal_that_have_no_name_are_told() {
     let (tasks, named) = ("\"task 7\"", "\"unnamed\": [2]");
     let of_tasks = NAMES.replace("\"ThreadId(7)\"", tasks);
@@ -161,7 +152,6 @@ fn tasks_of_the_journal_that_have_no_name_are_told() {
 }
 
 #[test]
-#[cfg_attr(target_family = "wasm", ignore = "WebAssembly has no threads")]
 fn a_caller_without_a_name_on_a_thread_of_named_tasks_is_told() {
     let (_, waker, _woken) = told();
     let gate = gate();
@@ -182,7 +172,6 @@ fn a_caller_without_a_name_on_a_thread_of_named_tasks_is_told() {
 }
 
 #[test]
-#[cfg_attr(target_family = "wasm", ignore = "WebAssembly has no threads")]
 fn a_question_that_leaves_no_entry_is_told() {
     let gate = gate();
     let location = std::panic::Location::caller();
@@ -202,7 +191,6 @@ fn a_question_that_leaves_no_entry_is_told() {
 }
 
 #[test]
-#[cfg_attr(target_family = "wasm", ignore = "WebAssembly has no threads")]
 fn the_question_of_the_caller_that_does_not_come_is_told() {
     let gate = gate_of(JOURNAL, NAMES, Duration::from_millis(5));
     gate.note_question(call(CLERK, 0, Operation::ReceiverCount, 0));
@@ -215,7 +203,6 @@ fn the_question_of_the_caller_that_does_not_come_is_told() {
 }
 
 #[test]
-#[cfg_attr(target_family = "wasm", ignore = "WebAssembly has no threads")]
 fn a_question_that_the_journal_lacks_is_told() {
     let lacking = NAMES.replace("\"failed\"", "\"quiet\": true, \"failed\"");
     for (names, wanted) in [
@@ -237,7 +224,6 @@ fn a_question_that_the_journal_lacks_is_told() {
 const STRANGER: usize = 5;
 
 #[test]
-#[cfg_attr(target_family = "wasm", ignore = "WebAssembly has no threads")]
 fn a_caller_that_the_journal_does_not_have_is_told_by_its_place() {
     let location = std::panic::Location::caller();
     let at = format!("{}:{}", location.file(), location.line());
@@ -255,7 +241,6 @@ fn a_caller_that_the_journal_does_not_have_is_told_by_its_place() {
 }
 
 #[test]
-#[cfg_attr(target_family = "wasm", ignore = "WebAssembly has no threads")]
 fn a_drop_that_has_no_place_is_told_by_that_of_its_callers_last_call() {
     let location = std::panic::Location::caller();
     let at = format!("{}:{}", location.file(), location.line());

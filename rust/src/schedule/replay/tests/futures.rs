@@ -13,7 +13,6 @@ use std::thread;
 use std::time::Duration;
 
 #[test]
-#[cfg_attr(target_family = "wasm", ignore = "WebAssembly has no threads")]
 fn a_future_is_pending_until_its_turn_and_woken_by_the_helper() {
     let gate = gate();
     let (_, waker, woken) = told();
@@ -21,7 +20,7 @@ fn a_future_is_pending_until_its_turn_and_woken_by_the_helper() {
     let recv = call(AUDIT, 0, Operation::Recv, 1);
     assert!(!poll(&gate, recv, &mut ticket, &waker));
     assert!(!poll(&gate, recv, &mut ticket, &waker));
-    assert_eq!(gate.entrance.lock().waiters.len(), 1);
+    assert_eq!(gate.entrance.lock().waiters.values().count(), 1);
     make_first(&gate, 1);
     assert_eq!(woken.recv().unwrap(), "yovanelum-replay");
     assert!(poll(&gate, recv, &mut ticket, &waker));
@@ -29,7 +28,6 @@ fn a_future_is_pending_until_its_turn_and_woken_by_the_helper() {
 }
 
 #[test]
-#[cfg_attr(target_family = "wasm", ignore = "WebAssembly has no threads")]
 fn a_future_that_is_dropped_leaves_the_gate() {
     let gate = gate();
     let (dropped, waker, _woken) = told();
@@ -46,7 +44,6 @@ fn a_future_that_is_dropped_leaves_the_gate() {
 }
 
 #[test]
-#[cfg_attr(target_family = "wasm", ignore = "WebAssembly has no threads")]
 fn the_end_wakes_futures_that_the_journal_does_not_have() {
     let gate = gate();
     let (_, waker, woken) = told();
@@ -60,7 +57,6 @@ fn the_end_wakes_futures_that_the_journal_does_not_have() {
 }
 
 #[test]
-#[cfg_attr(target_family = "wasm", ignore = "WebAssembly has no threads")]
 fn a_poll_is_held_back_until_the_turn_of_its_actor() {
     let gate = gate();
     let (_, waker, woken) = told();
@@ -82,7 +78,6 @@ fn a_poll_is_held_back_until_the_turn_of_its_actor() {
 }
 
 #[test]
-#[cfg_attr(target_family = "wasm", ignore = "WebAssembly has no threads")]
 fn a_future_that_was_dropped_is_not_polled_at_the_turn_of_its_drop() {
     let names = NAMES.replace("\"failed\"", "\"cancelled\": {\"0\": [4]}, \"failed\"");
     let gate = gate_of(JOURNAL, &names, PATIENT);
@@ -95,7 +90,6 @@ fn a_future_that_was_dropped_is_not_polled_at_the_turn_of_its_drop() {
 }
 
 #[test]
-#[cfg_attr(target_family = "wasm", ignore = "WebAssembly has no threads")]
 fn a_poll_by_which_that_of_the_turn_is_made_is_not_held_back() {
     let gate = gate();
     let (_, waker, _woken) = told();
@@ -114,7 +108,6 @@ fn is_woken(woken: &Receiver<String>) -> bool {
 }
 
 #[test]
-#[cfg_attr(target_family = "wasm", ignore = "WebAssembly has no threads")]
 fn all_futures_that_wait_for_a_handle_are_woken_at_its_turn() {
     let gate = gate();
     let [(_, first, _first), (_, second, woken)] = [told(), told()];
@@ -130,7 +123,6 @@ fn all_futures_that_wait_for_a_handle_are_woken_at_its_turn() {
 }
 
 #[test]
-#[cfg_attr(target_family = "wasm", ignore = "WebAssembly has no threads")]
 fn a_future_is_woken_where_another_call_gives_the_turn_back() {
     let gate = gate();
     make_first(&gate, 1);
@@ -146,7 +138,6 @@ fn a_future_is_woken_where_another_call_gives_the_turn_back() {
 }
 
 #[test]
-#[cfg_attr(target_family = "wasm", ignore = "WebAssembly has no threads")]
 fn a_future_that_is_polled_again_has_waited_since_its_first_poll() {
     let gate = gate_without_helper(JOURNAL, PATIENT);
     let (_, waker, _woken) = told();
@@ -165,7 +156,6 @@ fn a_future_that_is_polled_again_has_waited_since_its_first_poll() {
 }
 
 #[test]
-#[cfg_attr(target_family = "wasm", ignore = "WebAssembly has no threads")]
 fn a_poll_that_is_let_go_is_held_back_at_the_next_turn_of_another() {
     let gate = gate_without_helper(JOURNAL, PATIENT);
     let (_, waker, _woken) = told();
@@ -181,7 +171,6 @@ fn a_poll_that_is_let_go_is_held_back_at_the_next_turn_of_another() {
 }
 
 #[test]
-#[cfg_attr(target_family = "wasm", ignore = "WebAssembly has no threads")]
 fn a_future_past_its_last_call_is_held_back_while_it_has_a_handle() {
     let (_, waker, _woken) = told();
     let context = Context::from_waker(&waker);

@@ -17,7 +17,6 @@ fn last() -> ArrivingCall {
 }
 
 #[test]
-#[cfg_attr(target_family = "wasm", ignore = "WebAssembly has no threads")]
 fn a_replay_without_its_last_call_says_so() {
     let gate = gate();
     make_first(&gate, 5);
@@ -46,7 +45,6 @@ fn waits_for_last_call() -> bool {
 }
 
 #[test]
-#[cfg_attr(target_family = "wasm", ignore = "WebAssembly has no threads")]
 fn the_end_waits_for_calls_that_are_on_their_way() {
     // It waits for a quarter of a second, in which this thread may not run under load.
     assert!((0..20).any(|_| waits_for_last_call()));
@@ -71,7 +69,6 @@ fn sent(names: &str, [first, state, second]: [&str; 3]) -> String {
 }
 
 #[test]
-#[cfg_attr(target_family = "wasm", ignore = "WebAssembly has no threads")]
 fn a_text_is_compared_with_that_of_its_value() {
     let values = r#""order 72"}, "1": {"1": "open"}}"#;
     let names = NAMES.replace(r#""order 72"}}"#, values);
@@ -91,7 +88,6 @@ fn a_text_is_compared_with_that_of_its_value() {
 }
 
 #[test]
-#[cfg_attr(target_family = "wasm", ignore = "WebAssembly has no threads")]
 fn a_failure_is_the_same_where_it_ends_by_the_same_panic() {
     let panics = r#""panics": [{"text": "no stock", "location": null, "actor": null, "since": 2},
         {"text": "no order", "location": null, "actor": null, "since": 6}], "failed""#;

@@ -42,7 +42,6 @@ fn received_by(tasks: [&Waker; 3]) -> String {
 const ALL: &str = "all 4 calls in the recorded order";
 
 #[test]
-#[cfg_attr(target_family = "wasm", ignore = "WebAssembly has no threads")]
 fn tasks_that_use_a_handle_in_turn_are_not_told_apart() {
     let [(_, first, _a), (_, second, _b)] = [told(), told()];
     assert_eq!(
@@ -63,7 +62,6 @@ fn on_worker(run: impl FnOnce() + Send) {
 }
 
 #[test]
-#[cfg_attr(target_family = "wasm", ignore = "WebAssembly has no threads")]
 fn a_task_that_moves_from_worker_to_worker_is_one() {
     let (gate, (_, task, _woken)) = (gate(), told());
     on_worker(|| {
@@ -75,7 +73,6 @@ fn a_task_that_moves_from_worker_to_worker_is_one() {
 }
 
 #[test]
-#[cfg_attr(target_family = "wasm", ignore = "WebAssembly has no threads")]
 fn tasks_on_two_workers_are_not_taken_for_one() {
     let gate = gate();
     let [(_, first, _a), (_, second, _b)] = [told(), told()];
@@ -96,7 +93,6 @@ fn tasks_on_two_workers_are_not_taken_for_one() {
 }
 
 #[test]
-#[cfg_attr(target_family = "wasm", ignore = "WebAssembly has no threads")]
 fn a_handle_may_be_given_from_task_to_task() {
     let [(_, first, _a), (_, second, _b), (_, third, _c)] = [told(), told(), told()];
     for tasks in [
@@ -109,7 +105,6 @@ fn a_handle_may_be_given_from_task_to_task() {
 }
 
 #[test]
-#[cfg_attr(target_family = "wasm", ignore = "WebAssembly has no threads")]
 fn a_task_that_blocks_its_thread_meanwhile_is_still_one() {
     let (gate, (_, task, _woken)) = (gate(), told());
     receive(&gate, &task);
@@ -122,7 +117,6 @@ fn a_task_that_blocks_its_thread_meanwhile_is_still_one() {
 }
 
 #[test]
-#[cfg_attr(target_family = "wasm", ignore = "WebAssembly has no threads")]
 fn the_wakers_of_tasks_are_given_back_at_the_end() {
     let (gate, (counted, task, _woken)) = (gate(), told());
     for _ in 0..3 {

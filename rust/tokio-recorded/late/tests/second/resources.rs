@@ -1,6 +1,6 @@
 //! What a receiver waits for: locks, permits, other channels, sockets, pipes and threads.
 
-use late::events::{Signals, audited, feed, next};
+use late::events::{Signals, audited, fed, next};
 use std::sync::Arc;
 use std::time::Duration;
 use tokio::io::{AsyncBufReadExt, AsyncWriteExt, BufReader};
@@ -13,8 +13,7 @@ use yovanelum::{Recorder, named};
 async fn starved_by_readers() {
     let _recorder = Recorder::for_test("starved_by_readers");
     let (entered, mut rx) = broadcast::channel(2);
-    let signals = Signals::new();
-    let (own, changed) = (signals.clone(), signals.clone());
+    let [signals, own, changed] = Signals::shared();
     let members = Arc::new(RwLock::new(vec![]));
     let (listed, searched) = (members.clone(), members.clone());
     let (listed, searched) = (listed.read_owned().await, searched.read_owned().await);
@@ -35,8 +34,7 @@ async fn starved_by_readers() {
         is_done.await.unwrap();
         drop(searched); // @starved_released
     }));
-    tokio::spawn(named("feed", feed(entered, signals.clone())));
-    audited(log, &signals).await;
+    fed(entered, log, &signals).await;
 }
 
 /// A pool of one worker: the dispatcher has a permit before it takes an order, and the job gives
@@ -45,8 +43,7 @@ async fn starved_by_readers() {
 async fn pool_of_one() {
     let _recorder = Recorder::for_test("pool_of_one");
     let (orders, mut rx) = broadcast::channel(2);
-    let signals = Signals::new();
-    let (own, changed) = (signals.clone(), signals.clone());
+    let [signals, own, changed] = Signals::shared();
     let pool = Arc::new(Semaphore::new(1));
     let dispatcher = tokio::spawn(named("dispatcher", async move {
         loop {
@@ -62,8 +59,7 @@ async fn pool_of_one() {
             own.is_busy_after_poll();
         }
     }));
-    tokio::spawn(named("feed", feed(orders, signals.clone())));
-    audited(dispatcher, &signals).await;
+    fed(orders, dispatcher, &signals).await;
 }
 
 /// An actor that is asked by its queue, with a place for the reply.
@@ -82,8 +78,7 @@ impl Ledger {
 async fn request_dropped() {
     let _recorder = Recorder::for_test("request_dropped");
     let (orders, mut rx) = broadcast::channel(2);
-    let signals = Signals::new();
-    let (own, changed) = (signals.clone(), signals.clone());
+    let [signals, own, changed] = Signals::shared();
     let (asks, mut asked) = mpsc::channel(8);
     tokio::spawn(named("ledger", async move {
         while let Some(request) = asked.recv().await {
@@ -99,8 +94,7 @@ async fn request_dropped() {
             assert_eq!(asked.await, Ok(None));
         }
     }));
-    tokio::spawn(named("feed", feed(orders, signals.clone())));
-    audited(audit, &signals).await;
+    fed(orders, audit, &signals).await;
 }
 
 async fn price(priced: &Notify) -> u32 {
@@ -117,8 +111,7 @@ async fn stock(stocked: &mut mpsc::UnboundedReceiver<u32>) -> u32 {
 async fn price_and_stock() {
     let _recorder = Recorder::for_test("price_and_stock");
     let (orders, mut rx) = broadcast::channel(2);
-    let signals = Signals::new();
-    let (own, changed) = (signals.clone(), signals.clone());
+    let [signals, own, changed] = Signals::shared();
     let (asks, priced) = (Arc::new(Notify::new()), Arc::new(Notify::new()));
     let (asked, prices) = (asks.clone(), priced.clone());
     let (stocks, mut stocked) = mpsc::unbounded_channel();
@@ -138,8 +131,7 @@ async fn price_and_stock() {
             assert_eq!(both, (7, 3));
         }
     }));
-    tokio::spawn(named("feed", feed(orders, signals.clone())));
-    audited(page, &signals).await;
+    fed(orders, page, &signals).await;
 }
 
 /// Labels go to a printer by a queue of one, which is full.
@@ -147,8 +139,7 @@ async fn price_and_stock() {
 async fn labels_printed() {
     let _recorder = Recorder::for_test("labels_printed");
     let (orders, mut rx) = broadcast::channel(2);
-    let signals = Signals::new();
-    let (own, changed) = (signals.clone(), signals.clone());
+    let [signals, own, changed] = Signals::shared();
     let (labels, mut printed) = mpsc::channel(1);
     labels.try_send(99).unwrap();
     let packer = tokio::spawn(named("packer", async move {
@@ -162,8 +153,7 @@ async fn labels_printed() {
         changed.overwritten().await;
         while printed.recv().await.is_some() {} // @label_printed
     }));
-    tokio::spawn(named("feed", feed(orders, signals.clone())));
-    audited(packer, &signals).await;
+    fed(orders, packer, &signals).await;
 }
 
 /// What a member of a cluster is.
@@ -180,8 +170,7 @@ async fn leader_elected() {
     let _recorder = Recorder::for_test("leader_elected");
     let (orders, mut rx) = broadcast::channel(2);
     let (roles, mut role) = watch::channel(Role::Follower);
-    let signals = Signals::new();
-    let (own, changed) = (signals.clone(), signals.clone());
+    let [signals, own, changed] = Signals::shared();
     let member = tokio::spawn(named("member", async move {
         while next(&mut rx, &own).await.is_some() {
             own.is_busy_after_poll();
@@ -197,8 +186,7 @@ async fn leader_elected() {
         }
         roles.closed().await;
     }));
-    tokio::spawn(named("feed", feed(orders, signals.clone())));
-    audited(member, &signals).await;
+    fed(orders, member, &signals).await;
 }
 
 /// A chat by lines: an order is answered by a line of the peer.
@@ -210,8 +198,7 @@ async fn chat_lines() {
     let (stream, accepted) = tokio::join!(connects, listener.accept());
     let (stream, (mut accepted, _)) = (stream.unwrap(), accepted.unwrap());
     let (orders, mut rx) = broadcast::channel(2);
-    let signals = Signals::new();
-    let (own, changed) = (signals.clone(), signals.clone());
+    let [signals, own, changed] = Signals::shared();
     let bot = tokio::spawn(named("bot", async move {
         let mut lines = BufReader::new(stream).lines();
         while next(&mut rx, &own).await.is_some() {
@@ -224,8 +211,7 @@ async fn chat_lines() {
         changed.overwritten().await;
         accepted.write_all(b"done\n").await.unwrap();
     }));
-    tokio::spawn(named("feed", feed(orders, signals.clone())));
-    audited(bot, &signals).await;
+    fed(orders, bot, &signals).await;
 }
 
 /// A scale writes what it weighs into a named pipe: a thread of the runtime reads it.
@@ -236,8 +222,7 @@ async fn pipe_read() {
     let made = std::process::Command::new("mkfifo").arg(&pipe).status();
     assert!(made.unwrap().success());
     let (orders, mut rx) = broadcast::channel(2);
-    let signals = Signals::new();
-    let (own, changed) = (signals.clone(), signals.clone());
+    let [signals, own, changed] = Signals::shared();
     let scale = pipe.clone();
     let packer = tokio::spawn(named("packer", async move {
         while next(&mut rx, &own).await.is_some() {
@@ -251,8 +236,7 @@ async fn pipe_read() {
         changed.overwritten().await;
         std::fs::write(&scale, "12 kg").unwrap();
     }));
-    tokio::spawn(named("feed", feed(orders, signals.clone())));
-    audited(packer, &signals).await;
+    fed(orders, packer, &signals).await;
 }
 
 /// Pictures become small on a thread that may block, which tells by a queue that it is done.
@@ -275,8 +259,7 @@ async fn thumbnails() {
             assert_eq!(made.recv().await, Some(id)); // @thumbnail_received
         }
     }));
-    tokio::spawn(named("feed", feed(pictures, signals.clone())));
-    audited(gallery, &signals).await;
+    fed(pictures, gallery, &signals).await;
 }
 
 /// A place where all shards of a snapshot meet.
@@ -293,8 +276,7 @@ impl Checkpoint {
 async fn shards_meet() {
     let _recorder = Recorder::for_test("shards_meet");
     let (orders, mut rx) = broadcast::channel(2);
-    let signals = Signals::new();
-    let (own, changed) = (signals.clone(), signals.clone());
+    let [signals, own, changed] = Signals::shared();
     let all = Arc::new(Checkpoint(Barrier::new(3)));
     let (first, second) = (all.clone(), all.clone());
     let journal = tokio::spawn(named("journal", async move {
@@ -308,8 +290,7 @@ async fn shards_meet() {
         changed.overwritten().await;
         second.reached().await;
     }));
-    tokio::spawn(named("feed", feed(orders, signals.clone())));
-    audited(journal, &signals).await;
+    fed(orders, journal, &signals).await;
 }
 
 async fn connect(accepted: &Notify) -> Result<u32, ()> {
@@ -322,8 +303,7 @@ async fn connect(accepted: &Notify) -> Result<u32, ()> {
 async fn session_made() {
     let _recorder = Recorder::for_test("session_made");
     let (orders, mut rx) = broadcast::channel(2);
-    let signals = Signals::new();
-    let (own, changed) = (signals.clone(), signals.clone());
+    let [signals, own, changed] = Signals::shared();
     let accepted = Arc::new(Notify::new());
     let accepts = accepted.clone();
     let client = tokio::spawn(named("client", async move {
@@ -338,8 +318,7 @@ async fn session_made() {
         changed.overwritten().await;
         accepts.notify_waiters(); // @session_accepted
     }));
-    tokio::spawn(named("feed", feed(orders, signals.clone())));
-    audited(client, &signals).await;
+    fed(orders, client, &signals).await;
 }
 
 /// Approvals are forwarded by a task that is aborted before it forwards one.
@@ -347,8 +326,7 @@ async fn session_made() {
 async fn relay_aborted() {
     let _recorder = Recorder::for_test("relay_aborted");
     let (orders, mut rx) = broadcast::channel(2);
-    let signals = Signals::new();
-    let (own, changed) = (signals.clone(), signals.clone());
+    let [signals, own, changed] = Signals::shared();
     let (_approvals, mut approved) = mpsc::channel::<u32>(8);
     let (forwards, mut forwarded) = mpsc::channel(8);
     let relay = tokio::spawn(named("relay", async move {
@@ -366,8 +344,7 @@ async fn relay_aborted() {
         changed.overwritten().await;
         relay.abort();
     }));
-    tokio::spawn(named("feed", feed(orders, signals.clone())));
-    audited(audit, &signals).await;
+    fed(orders, audit, &signals).await;
 }
 
 /// Sends each route to who listens, one in a turn, and reads the table until all were sent.
@@ -404,8 +381,7 @@ async fn table_read_across() {
 async fn pings_first() {
     let _recorder = Recorder::for_test("pings_first");
     let (orders, mut rx) = broadcast::channel(2);
-    let signals = Signals::new();
-    let (own, changed) = (signals.clone(), signals.clone());
+    let [signals, own, changed] = Signals::shared();
     let (hello, mut greeted) = mpsc::channel(8);
     let (pings, mut pinged) = mpsc::channel(8);
     let client = tokio::spawn(named("client", async move {
@@ -431,6 +407,5 @@ async fn pings_first() {
             pong.send(()).unwrap(); // @pong_sent
         }
     }));
-    tokio::spawn(named("feed", feed(orders, signals.clone())));
-    audited(client, &signals).await;
+    fed(orders, client, &signals).await;
 }

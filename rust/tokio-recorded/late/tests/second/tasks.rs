@@ -1,7 +1,7 @@
 //! What tasks do: they work, block, send bursts, end, are timed, or aren't polled.
 
 use late::Sent;
-use late::events::{Signals, audited, feed, feed_on_thread, next};
+use late::events::{Signals, audited, fed, fed_by_thread, feed_on_thread, next};
 use std::sync::Arc;
 use std::time::Duration;
 use tokio::sync::{Mutex, Notify, broadcast, mpsc, oneshot};
@@ -38,8 +38,7 @@ async fn warehouses_asked() {
             }
         }
     }));
-    tokio::spawn(named("feed", feed(orders, signals.clone())));
-    audited(shop, &signals).await;
+    fed(orders, shop, &signals).await;
 }
 
 /// Two pictures are uploaded at once at most, and both wait for the store.
@@ -48,8 +47,7 @@ async fn uploads_at_once() {
     use futures::StreamExt;
     let _recorder = Recorder::for_test("uploads_at_once");
     let (pictures, rx) = broadcast::channel(2);
-    let signals = Signals::new();
-    let (own, changed) = (signals.clone(), signals.clone());
+    let [signals, own, changed] = Signals::shared();
     let store = Arc::new(Notify::new());
     let is_ready = store.clone();
     let uploader = tokio::spawn(named("uploader", async move {
@@ -168,8 +166,7 @@ async fn prices_locked() {
     let recorder = Recorder::for_test("prices_locked");
     let (orders, mut rx) = broadcast::channel(2);
     recorder.show(&orders, |id| format!("order {id}"));
-    let signals = Signals::new();
-    let (own, changed) = (signals.clone(), signals.clone());
+    let [signals, own, changed] = Signals::shared();
     let prices = Arc::new(std::sync::Mutex::new(7));
     let loaded = prices.clone();
     let (begins, has_begun) = std::sync::mpsc::channel();
@@ -207,8 +204,7 @@ fn write_page(signals: &Signals) -> u64 {
 async fn report_written() {
     let _recorder = Recorder::for_test("report_written");
     let (orders, mut rx) = broadcast::channel(2);
-    let signals = Signals::new();
-    let (own, writes) = (signals.clone(), signals.clone());
+    let [signals, own, writes] = Signals::shared();
     let (jobs, mut queue) = mpsc::channel(8);
     tokio::spawn(named("report", async move {
         loop {
@@ -224,9 +220,7 @@ async fn report_written() {
             jobs.send(id).await.unwrap();
         }
     }));
-    let thread = feed_on_thread(orders, signals.clone());
-    audited(audit, &signals).await;
-    thread.join().unwrap();
+    fed_by_thread(orders, audit, &signals).await;
 }
 
 /// A thread of old code answers by a queue of std. Other tasks go on beside.
@@ -235,8 +229,7 @@ async fn legacy_asked() {
     let recorder = Recorder::for_test("legacy_asked");
     let (orders, mut rx) = broadcast::channel(2);
     recorder.show(&orders, |id| format!("order {id}"));
-    let signals = Signals::new();
-    let (own, changed) = (signals.clone(), signals.clone());
+    let [signals, own, changed] = Signals::shared();
     let (ask, asked) = std::sync::mpsc::channel();
     let (answer, answered) = std::sync::mpsc::channel();
     let legacy = std::thread::spawn(move || {
@@ -296,8 +289,7 @@ async fn indexed() {
 async fn batch_sent() {
     let _recorder = Recorder::for_test("batch_sent");
     let (orders, mut rx) = broadcast::channel(2);
-    let signals = Signals::new();
-    let (own, uploads) = (signals.clone(), signals.clone());
+    let [signals, own, uploads] = Signals::shared();
     let (batches, mut uploaded) = mpsc::channel::<Vec<u32>>(4);
     let audit = tokio::spawn(named("audit", async move {
         while next(&mut rx, &own).await.is_some() {
@@ -335,8 +327,7 @@ async fn archive(signals: &Arc<Signals>) {
 async fn session_archives() {
     let _recorder = Recorder::for_test("session_archives");
     let (orders, mut rx) = broadcast::channel(2);
-    let signals = Signals::new();
-    let (own, serves) = (signals.clone(), signals.clone());
+    let [signals, own, serves] = Signals::shared();
     let (commands, mut commanded) = mpsc::channel::<&str>(4);
     let reads = Arc::new(Notify::new());
     let has_read = reads.clone();
@@ -357,8 +348,7 @@ async fn session_archives() {
         has_read.notified().await;
         commands.send("archive").await.unwrap();
     }));
-    tokio::spawn(named("feed", feed(orders, signals.clone())));
-    audited(session, &signals).await;
+    fed(orders, session, &signals).await;
 }
 
 /// Notices are shown one in 100 ms, by a stream, and come each 10 ms. The clock is paused.

@@ -1,6 +1,6 @@
 //! What a receiver waits for: locks, permits, other channels, sockets, pipes, programs and timers.
 
-use late::events::{Signals, audited, feed, next};
+use late::events::{Signals, audited, fed, next};
 use std::process::Stdio;
 use std::sync::Arc;
 use std::time::Duration;
@@ -15,8 +15,7 @@ use yovanelum::{Recorder, named};
 async fn catalogue_reloaded() {
     let _recorder = Recorder::for_test("catalogue_reloaded");
     let (orders, mut rx) = broadcast::channel(2);
-    let signals = Signals::new();
-    let (own, changed) = (signals.clone(), signals.clone());
+    let [signals, own, changed] = Signals::shared();
     let catalogue = Arc::new(RwLock::new(vec![1]));
     let mut written = catalogue.clone().write_owned().await;
     let shop = tokio::spawn(named("shop", async move {
@@ -33,8 +32,7 @@ async fn catalogue_reloaded() {
         tokio::task::yield_now().await;
         drop(read);
     }));
-    tokio::spawn(named("feed", feed(orders, signals.clone())));
-    audited(shop, &signals).await;
+    fed(orders, shop, &signals).await;
 }
 
 /// A tracker asks a sensor by a socket of Unix, which has nothing to read yet.
@@ -42,8 +40,7 @@ async fn catalogue_reloaded() {
 async fn sensor_readable() {
     let _recorder = Recorder::for_test("sensor_readable");
     let (orders, mut rx) = broadcast::channel(2);
-    let signals = Signals::new();
-    let (own, changed) = (signals.clone(), signals.clone());
+    let [signals, own, changed] = Signals::shared();
     let (near, far) = UnixStream::pair().unwrap();
     let tracker = tokio::spawn(named("tracker", async move {
         while next(&mut rx, &own).await.is_some() {
@@ -58,8 +55,7 @@ async fn sensor_readable() {
         far.writable().await.unwrap();
         assert_eq!(far.try_write(b"7").unwrap(), 1);
     }));
-    tokio::spawn(named("feed", feed(orders, signals.clone())));
-    audited(tracker, &signals).await;
+    fed(orders, tracker, &signals).await;
 }
 
 /// A teller serves the next customer before it looks at orders again.
@@ -69,8 +65,7 @@ async fn customer_served() {
     let listener = TcpListener::bind("127.0.0.1:0").await.unwrap();
     let address = listener.local_addr().unwrap();
     let (orders, mut rx) = broadcast::channel(2);
-    let signals = Signals::new();
-    let (own, changed) = (signals.clone(), signals.clone());
+    let [signals, own, changed] = Signals::shared();
     let teller = tokio::spawn(named("teller", async move {
         while next(&mut rx, &own).await.is_some() {
             own.is_busy_after_poll();
@@ -82,8 +77,7 @@ async fn customer_served() {
         changed.overwritten().await;
         let _stream = TcpStream::connect(address).await.unwrap();
     }));
-    tokio::spawn(named("feed", feed(orders, signals.clone())));
-    audited(teller, &signals).await;
+    fed(orders, teller, &signals).await;
 }
 
 /// An archive copies what a camera writes, until that ends.
@@ -91,8 +85,7 @@ async fn customer_served() {
 async fn tape_copied() {
     let _recorder = Recorder::for_test("tape_copied");
     let (orders, mut rx) = broadcast::channel(2);
-    let signals = Signals::new();
-    let (own, changed) = (signals.clone(), signals.clone());
+    let [signals, own, changed] = Signals::shared();
     let (mut reader, writer) = tokio::io::duplex(64);
     let archive = tokio::spawn(named("archive", async move {
         while next(&mut rx, &own).await.is_some() {
@@ -106,8 +99,7 @@ async fn tape_copied() {
         changed.overwritten().await;
         drop(writer); // @tape_ended
     }));
-    tokio::spawn(named("feed", feed(orders, signals.clone())));
-    audited(archive, &signals).await;
+    fed(orders, archive, &signals).await;
 }
 
 /// A studio goes on once nobody watches its frames any more.
@@ -116,8 +108,7 @@ async fn viewers_leave() {
     let _recorder = Recorder::for_test("viewers_leave");
     let (orders, mut rx) = broadcast::channel(2);
     let (frames, watched) = watch::channel(0);
-    let signals = Signals::new();
-    let (own, changed) = (signals.clone(), signals.clone());
+    let [signals, own, changed] = Signals::shared();
     let studio = tokio::spawn(named("studio", async move {
         while next(&mut rx, &own).await.is_some() {
             own.is_busy_after_poll();
@@ -128,8 +119,7 @@ async fn viewers_leave() {
         changed.overwritten().await;
         drop(watched); // @viewer_left
     }));
-    tokio::spawn(named("feed", feed(orders, signals.clone())));
-    audited(studio, &signals).await;
+    fed(orders, studio, &signals).await;
 }
 
 /// An engine waits for a command, and its pilot leaves without one.
@@ -138,8 +128,7 @@ async fn pilot_leaves() {
     let _recorder = Recorder::for_test("pilot_leaves");
     let (orders, mut rx) = broadcast::channel(2);
     let (control, mut commands) = broadcast::channel::<u32>(4);
-    let signals = Signals::new();
-    let (own, changed) = (signals.clone(), signals.clone());
+    let [signals, own, changed] = Signals::shared();
     let engine = tokio::spawn(named("engine", async move {
         while next(&mut rx, &own).await.is_some() {
             own.is_busy_after_poll();
@@ -151,8 +140,7 @@ async fn pilot_leaves() {
         changed.overwritten().await;
         drop(control); // @pilot_left
     }));
-    tokio::spawn(named("feed", feed(orders, signals.clone())));
-    audited(engine, &signals).await;
+    fed(orders, engine, &signals).await;
 }
 
 /// An operator stays on the line until the caller hangs up.
@@ -160,8 +148,7 @@ async fn pilot_leaves() {
 async fn caller_hangs_up() {
     let _recorder = Recorder::for_test("caller_hangs_up");
     let (orders, mut rx) = broadcast::channel(2);
-    let signals = Signals::new();
-    let (own, changed) = (signals.clone(), signals.clone());
+    let [signals, own, changed] = Signals::shared();
     let (mut line, call) = oneshot::channel::<u32>();
     let operator = tokio::spawn(named("operator", async move {
         while next(&mut rx, &own).await.is_some() {
@@ -173,8 +160,7 @@ async fn caller_hangs_up() {
         changed.overwritten().await;
         drop(call); // @caller_left
     }));
-    tokio::spawn(named("feed", feed(orders, signals.clone())));
-    audited(operator, &signals).await;
+    fed(orders, operator, &signals).await;
 }
 
 /// A studio waits for a program that converts, which ends when its input does.
@@ -182,8 +168,7 @@ async fn caller_hangs_up() {
 async fn converter_exits() {
     let _recorder = Recorder::for_test("converter_exits");
     let (orders, mut rx) = broadcast::channel(2);
-    let signals = Signals::new();
-    let (own, changed) = (signals.clone(), signals.clone());
+    let [signals, own, changed] = Signals::shared();
     let mut command = tokio::process::Command::new("cat");
     let command = command.stdin(Stdio::piped()).stdout(Stdio::null());
     let mut converter = command.spawn().unwrap();
@@ -199,8 +184,7 @@ async fn converter_exits() {
         changed.overwritten().await;
         drop(input);
     }));
-    tokio::spawn(named("feed", feed(orders, signals.clone())));
-    audited(studio, &signals).await;
+    fed(orders, studio, &signals).await;
 }
 
 /// A spooler opens a named pipe, which takes until the printer has it open too.
@@ -211,8 +195,7 @@ async fn printer_opened() {
     let made = std::process::Command::new("mkfifo").arg(&pipe).status();
     assert!(made.unwrap().success());
     let (orders, mut rx) = broadcast::channel(2);
-    let signals = Signals::new();
-    let (own, changed) = (signals.clone(), signals.clone());
+    let [signals, own, changed] = Signals::shared();
     let device = pipe.clone();
     let spooler = tokio::spawn(named("spooler", async move {
         let mut options = tokio::fs::OpenOptions::new();
@@ -228,8 +211,7 @@ async fn printer_opened() {
         changed.overwritten().await;
         drop(std::fs::File::open(&device).unwrap());
     }));
-    tokio::spawn(named("feed", feed(orders, signals.clone())));
-    audited(spooler, &signals).await;
+    fed(orders, spooler, &signals).await;
 }
 
 /// Takes rows from a peer, and has the table all the while.
@@ -250,8 +232,7 @@ async fn import(
 async fn rows_imported() {
     let _recorder = Recorder::for_test("rows_imported");
     let (orders, mut rx) = broadcast::channel(2);
-    let signals = Signals::new();
-    let (own, changed) = (signals.clone(), signals.clone());
+    let [signals, own, changed] = Signals::shared();
     let table = Arc::new(Mutex::new(vec![]));
     let (peer, upload) = tokio::io::duplex(64);
     let (has_table, begun) = oneshot::channel();
@@ -268,8 +249,7 @@ async fn rows_imported() {
         changed.overwritten().await;
         drop(upload);
     }));
-    tokio::spawn(named("feed", feed(orders, signals.clone())));
-    audited(audit, &signals).await;
+    fed(orders, audit, &signals).await;
 }
 
 /// Nobody takes mails, and the queue is full: each is given up after a while. The clock is paused.
@@ -301,8 +281,7 @@ async fn mail_given_up() {
 async fn jobs_drained() {
     let _recorder = Recorder::for_test("jobs_drained");
     let (orders, mut rx) = broadcast::channel(2);
-    let signals = Signals::new();
-    let (own, changed) = (signals.clone(), signals.clone());
+    let [signals, own, changed] = Signals::shared();
     let pool = Arc::new(Semaphore::new(3));
     let permit = pool.clone().acquire_owned().await.unwrap();
     let (drains, mut drained) = mpsc::channel(1);
@@ -331,6 +310,5 @@ async fn jobs_drained() {
         has_begun.notified().await;
         drains.send(3).await.unwrap();
     }));
-    tokio::spawn(named("feed", feed(orders, signals.clone())));
-    audited(dispatcher, &signals).await;
+    fed(orders, dispatcher, &signals).await;
 }

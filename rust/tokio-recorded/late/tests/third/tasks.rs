@@ -1,7 +1,7 @@
 //! What tasks do: they work, block, send bursts, keep a worker, are timed, or wait for each other.
 
 use futures::StreamExt;
-use late::events::{Signals, audited, feed, feed_on_thread, next};
+use late::events::{Signals, audited, fed, fed_by_thread, feed, feed_on_thread, next};
 use std::sync::Arc;
 use std::time::Duration;
 use tokio::sync::broadcast::error::{RecvError, TryRecvError};
@@ -15,8 +15,7 @@ use yovanelum::{Recorder, named};
 async fn tickets_zipped() {
     let _recorder = Recorder::for_test("tickets_zipped");
     let (orders, rx) = broadcast::channel(2);
-    let signals = Signals::new();
-    let (own, changed) = (signals.clone(), signals.clone());
+    let [signals, own, changed] = Signals::shared();
     let (tickets, drawn) = mpsc::unbounded_channel();
     let counter = tokio::spawn(named("counter", async move {
         let orders = BroadcastStream::new(rx).inspect(|_| own.is_busy_after_poll());
@@ -45,8 +44,7 @@ async fn tickets_zipped() {
 async fn lines_forwarded() {
     let _recorder = Recorder::for_test("lines_forwarded");
     let (orders, rx) = broadcast::channel(2);
-    let signals = Signals::new();
-    let (own, changed) = (signals.clone(), signals.clone());
+    let [signals, own, changed] = Signals::shared();
     let (mut lines, mut printed) = futures::channel::mpsc::channel(1);
     while lines.try_send(99).is_ok() {}
     let spool = tokio::spawn(named("spool", async move {
@@ -67,8 +65,7 @@ async fn lines_forwarded() {
             }
         }
     }));
-    tokio::spawn(named("feed", feed(orders, signals.clone())));
-    audited(spool, &signals).await;
+    fed(orders, spool, &signals).await;
 }
 
 /// A relay sends on what it is given, each line by an await, and six lines are there at once.
@@ -76,8 +73,7 @@ async fn lines_forwarded() {
 async fn lines_relayed() {
     let _recorder = Recorder::for_test("lines_relayed");
     let (orders, mut rx) = broadcast::channel(2);
-    let signals = Signals::new();
-    let (own, collects) = (signals.clone(), signals.clone());
+    let [signals, own, collects] = Signals::shared();
     let (lines, mut queue) = mpsc::channel(8);
     let audit = tokio::spawn(named("audit", async move {
         while next(&mut rx, &own).await.is_some() {
@@ -201,8 +197,7 @@ async fn polled_by_ticks() {
 async fn worker_kept() {
     let _recorder = Recorder::for_test("worker_kept");
     let (orders, mut rx) = broadcast::channel(2);
-    let signals = Signals::new();
-    let (own, imports) = (signals.clone(), signals.clone());
+    let [signals, own, imports] = Signals::shared();
     let imported = orders.clone();
     let (begins, has_begun) = oneshot::channel();
     let audit = tokio::spawn(named("audit", async move {
@@ -219,9 +214,7 @@ async fn worker_kept() {
         imports.block_until_overwritten();
     }));
     has_begun.await.unwrap();
-    let thread = feed_on_thread(orders, signals.clone());
-    audited(audit, &signals).await;
-    thread.join().unwrap();
+    fed_by_thread(orders, audit, &signals).await;
 }
 
 /// A ledger of old code reads orders on a thread that may block, and works on each.
@@ -254,8 +247,7 @@ async fn rates_blocked_on() {
     let recorder = Recorder::for_test("rates_blocked_on");
     let (orders, mut rx) = broadcast::channel(2);
     recorder.show(&orders, |id| format!("order {id}"));
-    let signals = Signals::new();
-    let (own, changed) = (signals.clone(), signals.clone());
+    let [signals, own, changed] = Signals::shared();
     let rates = Arc::new(Mutex::new(7));
     let mut held = rates.clone().lock_owned().await;
     let rate = move || *futures::executor::block_on(rates.lock());
@@ -269,9 +261,7 @@ async fn rates_blocked_on() {
         changed.overwritten().await;
         *held += 1;
     }));
-    let thread = feed_on_thread(orders, signals.clone());
-    audited(exchange, &signals).await;
-    thread.join().unwrap();
+    fed_by_thread(orders, exchange, &signals).await;
 }
 
 /// A preview of a text is rendered on a thread that may block, while the text changes.

@@ -20,13 +20,13 @@ fn overrun_walked_back() {
         capacity: 2,
         sent: 2,
         queued: 2,
-        window: (Some(1), Some(2), None, None, None),
+        window: [Some(1), Some(2), None, None, None],
         receivers: (None, Some((0, 2, 0)), None),
         ..OPENING
     };
     const OVERRUN: Place = Place {
         sent: 3,
-        window: (Some(2), Some(3), None, None, None),
+        window: [Some(2), Some(3), None, None, None],
         receivers: (None, Some((0, 3, 1)), None),
         ..FULL
     };
@@ -53,7 +53,7 @@ fn capacity_is_rounded_up() {
         capacity: 4,
         sent: 5,
         queued: 4,
-        window: (Some(2), Some(3), Some(4), Some(5), None),
+        window: [Some(2), Some(3), Some(4), Some(5), None],
         receivers: (None, Some((0, 5, 1)), None),
         ..OPENING
     };
@@ -77,7 +77,7 @@ fn lagged_then_closed() {
     const CLOSED: Place = Place {
         sent: 2,
         closed: true,
-        window: (Some(2), None, None, None, None),
+        window: [Some(2), None, None, None, None],
         kinds: (None, Some(Kind::Receiver), None),
         receivers: (None, Some((2, 0, 0)), None),
         ..OPENING
@@ -119,7 +119,7 @@ fn drop_reads_the_rest() {
         capacity: 4,
         sent: 2,
         queued: 2,
-        window: (Some(5), Some(6), None, None, None),
+        window: [Some(5), Some(6), None, None, None],
         receivers: (None, Some((0, 2, 0)), None),
         ..OPENING
     };
@@ -144,7 +144,7 @@ fn resubscribe_skips_the_backlog() {
         sent: 5,
         queued: 2,
         made: 3,
-        window: (Some(4), Some(5), None, None, None),
+        window: [Some(4), Some(5), None, None, None],
         kinds: (
             Some(Kind::Sender),
             Some(Kind::Receiver),
@@ -330,13 +330,13 @@ fn greatest_capacity_overrun_by_one() {
         capacity: 65_536,
         sent: 65_536,
         queued: 65_536,
-        window: (Some(0), Some(1), Some(2), Some(3), Some(4)),
+        window: [Some(0), Some(1), Some(2), Some(3), Some(4)],
         receivers: (None, Some((0, 65_536, 0)), None),
         ..OPENING
     };
     const OVERRUN: Place = Place {
         sent: 65_537,
-        window: (Some(1), Some(2), Some(3), Some(4), Some(5)),
+        window: [Some(1), Some(2), Some(3), Some(4), Some(5)],
         receivers: (None, Some((0, 65_537, 1)), None),
         ..FULL
     };

@@ -101,27 +101,26 @@ fn played(calls: &[Made], closes: &[(usize, usize)]) -> Shown {
     Shown { clocks, closes }
 }
 
-/// The call of an actor of desk 0 by the pass of desk 0.
-fn own(channel: u32, actor: usize, call: ChanCall<u64>) -> Made {
+/// A call on a channel of the first of two desks, by an actor's pass of the second.
+fn made([at, of]: [usize; 2], channel: u32, actor: usize, call: ChanCall<u64>) -> Made {
     Made {
-        at: 0,
+        at,
         channel,
-        of: 0,
+        of,
         actor,
         call,
     }
 }
 
+/// The call of an actor of desk 0 by the pass of desk 0.
+fn own(channel: u32, actor: usize, call: ChanCall<u64>) -> Made {
+    made([0, 0], channel, actor, call)
+}
+
 #[test]
 fn passes_of_another_desk() {
     // Both desks reply to the same two calls alike, and then the other's second actor makes one more.
-    let other = |actor, call| Made {
-        at: 1,
-        channel: 0,
-        of: 1,
-        actor,
-        call,
-    };
+    let other = |actor, call| made([1, 1], 0, actor, call);
     let calls = [
         own(0, 0, SEND),
         own(0, 1, TRY_RECV),
@@ -144,13 +143,7 @@ fn passes_of_another_desk() {
 
 #[test]
 fn a_pass_at_two_desks() {
-    let elsewhere = Made {
-        at: 1,
-        channel: 0,
-        of: 0,
-        actor: 1,
-        call: SEND,
-    };
+    let elsewhere = made([1, 0], 0, 1, SEND);
     let calls = [own(0, 1, SEND), own(1, 1, SEND), elsewhere];
     // The one desk lacks an entry for a receipt, and the other one a receipt for its entry.
     let shown = played(&calls, &[(0, 0), (1, 1)]);
@@ -164,21 +157,9 @@ fn a_pass_at_two_desks() {
 #[test]
 fn entries_out_of_order() {
     // The guest's call has a stamp on one channel that its actor has on the other one already.
-    let by_guest = Made {
-        at: 0,
-        channel: 1,
-        of: 1,
-        actor: 1,
-        call: SEND,
-    };
+    let by_guest = made([0, 1], 1, 1, SEND);
     // By the receipts alone the first actor strays, at its second one. The order of the entries is looked at before.
-    let elsewhere = Made {
-        at: 1,
-        channel: 0,
-        of: 0,
-        actor: 0,
-        call: SEND,
-    };
+    let elsewhere = made([1, 0], 0, 0, SEND);
     let calls = [
         own(0, 1, SEND),
         own(1, 0, SEND),

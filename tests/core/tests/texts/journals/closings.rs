@@ -1,5 +1,6 @@
 //! The closings of runs.
 
+use crate::findings::{closing, late};
 use crate::texts::rows::run_of;
 use proved::Global;
 use proved::rw_findings::{Closing, Closings, LateReader, closings_of};
@@ -23,99 +24,43 @@ static ROWS: [Row; 7] = [
     (
         "told_after_two_values",
         b"broadcast 4\n0 0 send 0 1\n0 0 send 0 2\n0 0 try-recv 1\n0 0 drop 0\n0 0 try-recv 1\n0 0 try-recv 1\n0 0 try-recv 1\n",
-        &[Closing {
-            channel: 0,
-            place: 4,
-        }],
-        &[LateReader {
-            channel: 0,
-            receiver: 1,
-            told: Some(6),
-            read_on: 1,
-        }],
+        &[closing(0, 4)],
+        &[late(0, 1, Some(6), 1)],
     ),
     (
         "at_the_last_of_two_senders",
         b"broadcast 2\n0 0 clone-sender 0\n0 0 drop 0\n0 0 drop 2\n",
-        &[Closing {
-            channel: 0,
-            place: 3,
-        }],
-        &[LateReader {
-            channel: 0,
-            receiver: 1,
-            told: None,
-            read_on: 0,
-        }],
+        &[closing(0, 3)],
+        &[late(0, 1, None, 0)],
     ),
     (
         "a_weak_sender_keeps_nothing_open",
         b"broadcast 2\n0 0 downgrade 0\n0 0 subscribe 0\n0 0 drop 1\n0 0 drop 0\n0 0 try-recv 3\n",
-        &[Closing {
-            channel: 0,
-            place: 4,
-        }],
-        &[LateReader {
-            channel: 0,
-            receiver: 3,
-            told: Some(5),
-            read_on: 0,
-        }],
+        &[closing(0, 4)],
+        &[late(0, 3, Some(5), 0)],
     ),
     (
         "a_watch_tells_of_one_change_more",
         b"watch 4\n0 0 send 0 5\n0 0 drop 0\n0 0 changed 1\n0 0 changed 1\n0 0 has-changed 1\n",
-        &[Closing {
-            channel: 0,
-            place: 2,
-        }],
-        &[LateReader {
-            channel: 0,
-            receiver: 1,
-            told: Some(4),
-            read_on: 1,
-        }],
+        &[closing(0, 2)],
+        &[late(0, 1, Some(4), 1)],
     ),
     (
         "told_by_has_changed",
         b"watch 4\n0 0 drop 0\n0 0 borrow 1\n0 0 has-changed 1\n",
-        &[Closing {
-            channel: 0,
-            place: 1,
-        }],
-        &[LateReader {
-            channel: 0,
-            receiver: 1,
-            told: Some(3),
-            read_on: 0,
-        }],
+        &[closing(0, 1)],
+        &[late(0, 1, Some(3), 0)],
     ),
     (
         "two_channels",
         b"broadcast 1\nwatch 4\n0 1 drop 0\n0 0 drop 0\n0 1 changed 1\n0 0 resubscribe 1\n0 0 try-recv 2\n",
         &[
-            Closing {
-                channel: 0,
-                place: 2,
-            },
-            Closing {
-                channel: 1,
-                place: 1,
-            },
+            closing(0, 2),
+            closing(1, 1),
         ],
         &[
-            LateReader {
-                channel: 0,
-                receiver: 1,
-                told: None,
-                read_on: 0,
-            },
-            LateReader {
-                channel: 1,
-                receiver: 1,
-                told: Some(3),
-                read_on: 0,
-            },
+            late(0, 1, None, 0),
+            late(1, 1, Some(3), 0),
         ],
     ),
 ];

@@ -1,5 +1,6 @@
 //! The losses of runs.
 
+use crate::findings::loss;
 use crate::texts::rows::{OVERRUN, run_of};
 use proved::Global;
 use proved::rw_findings::{Loss, LossEnd, losses_of};
@@ -12,35 +13,17 @@ static ROWS: [Row; 8] = [
     (
         "told",
         OVERRUN,
-        &[Loss {
-            channel: 0,
-            receiver: 1,
-            from: 3,
-            lost: 1,
-            end: LossEnd::Told(4),
-        }],
+        &[loss(0, 1, (3, 1), LossEnd::Told(4))],
     ),
     (
         "capacity_is_rounded_up",
         b"broadcast 3\n0 0 send 0 1\n0 0 send 0 2\n0 0 send 0 3\n0 0 send 0 4\n0 0 send 0 5\n0 0 try-recv 1\n",
-        &[Loss {
-            channel: 0,
-            receiver: 1,
-            from: 5,
-            lost: 1,
-            end: LossEnd::Told(6),
-        }],
+        &[loss(0, 1, (5, 1), LossEnd::Told(6))],
     ),
     (
         "told_after_the_close",
         b"broadcast 1\n0 0 send 0 1\n0 0 send 0 2\n0 0 drop 0\n0 0 try-recv 1\n0 0 try-recv 1\n0 0 try-recv 1\n",
-        &[Loss {
-            channel: 0,
-            receiver: 1,
-            from: 2,
-            lost: 1,
-            end: LossEnd::Told(4),
-        }],
+        &[loss(0, 1, (2, 1), LossEnd::Told(4))],
     ),
     (
         "dropped_with_unread_values",
@@ -50,77 +33,29 @@ static ROWS: [Row; 8] = [
     (
         "never_told",
         b"broadcast 2\n0 0 send 0 1\n0 0 send 0 2\n0 0 send 0 3\n0 0 send 0 4\n0 0 send 0 5\n0 0 resubscribe 1\n0 0 send 0 6\n0 0 receiver-len 1\n0 0 receiver-len 2\n",
-        &[Loss {
-            channel: 0,
-            receiver: 1,
-            from: 3,
-            lost: 4,
-            end: LossEnd::Open,
-        }],
+        &[loss(0, 1, (3, 4), LossEnd::Open)],
     ),
     (
         "dropped_while_it_lags",
         b"broadcast 1\n0 0 send 0 1\n0 0 send 0 2\n0 0 send 0 3\n0 0 drop 1\n",
-        &[Loss {
-            channel: 0,
-            receiver: 1,
-            from: 2,
-            lost: 2,
-            end: LossEnd::Dropped(4),
-        }],
+        &[loss(0, 1, (2, 2), LossEnd::Dropped(4))],
     ),
     (
         "two_of_one_receiver",
         b"broadcast 1\n0 0 send 0 1\n0 0 send 0 2\n0 0 try-recv 1\n0 0 send 0 3\n0 0 send 0 4\n0 0 try-recv 1\n",
         &[
-            Loss {
-                channel: 0,
-                receiver: 1,
-                from: 2,
-                lost: 1,
-                end: LossEnd::Told(3),
-            },
-            Loss {
-                channel: 0,
-                receiver: 1,
-                from: 4,
-                lost: 2,
-                end: LossEnd::Told(6),
-            },
+            loss(0, 1, (2, 1), LossEnd::Told(3)),
+            loss(0, 1, (4, 2), LossEnd::Told(6)),
         ],
     ),
     (
         "in_order",
         b"broadcast 1\nwatch 4\nbroadcast 1\n0 0 subscribe 0\n0 0 send 0 1\n0 2 send 0 1\n0 2 send 0 2\n0 0 send 0 2\n0 1 send 0 5\n0 0 try-recv 2\n0 2 drop 1\n0 0 send 0 3\n0 0 drop 1\n",
         &[
-            Loss {
-                channel: 2,
-                receiver: 1,
-                from: 4,
-                lost: 1,
-                end: LossEnd::Dropped(8),
-            },
-            Loss {
-                channel: 0,
-                receiver: 1,
-                from: 5,
-                lost: 2,
-                end: LossEnd::Dropped(10),
-            },
-            Loss {
-                channel: 0,
-                receiver: 2,
-                from: 5,
-                lost: 1,
-                end: LossEnd::Told(7),
-            },
-            Loss {
-                channel: 0,
-                receiver: 2,
-                from: 9,
-                lost: 1,
-                end: LossEnd::Open,
-            },
+            loss(2, 1, (4, 1), LossEnd::Dropped(8)),
+            loss(0, 1, (5, 2), LossEnd::Dropped(10)),
+            loss(0, 2, (5, 1), LossEnd::Told(7)),
+            loss(0, 2, (9, 1), LossEnd::Open),
         ],
     ),
 ];

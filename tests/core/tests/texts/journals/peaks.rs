@@ -1,5 +1,6 @@
 //! The peaks of runs by stretches of places.
 
+use crate::findings::stretches;
 use crate::texts::rows::{OVERRUN, run_of};
 use proved::Global;
 use proved::rw_findings::{Measure, Peaks, Stretches, peaks_of};
@@ -20,66 +21,42 @@ static ROWS: [Peaked; 6] = [
         name: "lag_in_halves",
         script: OVERRUN,
         measure: Measure::Lag,
-        stretches: Stretches {
-            from: 0,
-            each: 2,
-            count: 4,
-        },
+        stretches: stretches(0, 2, 4),
         peaks: &[0, 1, 0, 0],
     },
     Peaked {
         name: "unread",
         script: OVERRUN,
         measure: Measure::Unread,
-        stretches: Stretches {
-            from: 0,
-            each: 2,
-            count: 4,
-        },
+        stretches: stretches(0, 2, 4),
         peaks: &[1, 3, 2, 0],
     },
     Peaked {
         name: "past_the_last_place",
         script: OVERRUN,
         measure: Measure::Unread,
-        stretches: Stretches {
-            from: 1,
-            each: 3,
-            count: 4,
-        },
+        stretches: stretches(1, 3, 4),
         peaks: &[3, 2, 0, 0],
     },
     Peaked {
         name: "from_the_last_place",
         script: OVERRUN,
         measure: Measure::Lag,
-        stretches: Stretches {
-            from: 8,
-            each: 1,
-            count: 1,
-        },
+        stretches: stretches(8, 1, 1),
         peaks: &[0],
     },
     Peaked {
         name: "dropped_while_it_lags",
         script: b"broadcast 1\n0 0 send 0 1\n0 0 send 0 2\n0 0 send 0 3\n0 0 drop 1\n",
         measure: Measure::Lag,
-        stretches: Stretches {
-            from: 0,
-            each: 5,
-            count: 1,
-        },
+        stretches: stretches(0, 5, 1),
         peaks: &[2],
     },
     Peaked {
         name: "unseen",
         script: b"watch 5\n0 0 send 0 6\n0 0 changed 1\n0 0 send 0 7\n0 0 drop 1\n",
         measure: Measure::Unseen,
-        stretches: Stretches {
-            from: 0,
-            each: 1,
-            count: 5,
-        },
+        stretches: stretches(0, 1, 5),
         peaks: &[0, 1, 0, 1, 0],
     },
 ];

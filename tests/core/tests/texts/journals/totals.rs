@@ -1,122 +1,42 @@
 //! The totals of runs.
 
+use crate::findings::{of_broadcast, of_watch};
 use crate::texts::rows::{OVERRUN, run_of};
 use proved::Global;
-use proved::rw_findings::{
-    BroadcastCounts, Counts, Totals, WatchCounts, last_receipts_of, totals_of,
-};
+use proved::rw_findings::{Totals, last_receipts_of, totals_of};
 use proved::rw_journal::Run;
 
 /// What a script is about, its lines, and the totals of its run.
 type Row = (&'static str, &'static [u8], &'static [Totals]);
 
-/// The totals of a receiver of a watch: how many changes it was told, how many it missed, and how many it never looked at.
-const fn of_watch(channel: u32, receiver: u32, [changes, missed, unlooked]: [u64; 3]) -> Totals {
-    Totals {
-        channel,
-        receiver,
-        counts: Counts::Watch(WatchCounts {
-            changes,
-            missed,
-            unlooked,
-        }),
-    }
-}
-
 static ROWS: [Row; 12] = [
     (
         "told_once",
         OVERRUN,
-        &[Totals {
-            channel: 0,
-            receiver: 1,
-            counts: Counts::Broadcast(BroadcastCounts {
-                received: 2,
-                told: 1,
-                lost: 1,
-                worst: 1,
-                worst_place: 3,
-                unread: Some(0),
-            }),
-        }],
+        &[of_broadcast(0, 1, [2, 1, 1, 1, 3], Some(0))],
     ),
     (
         "empty_tells_nobody",
         b"broadcast 4\n0 0 try-recv 1\n0 0 send 0 1\n0 0 send 0 2\n0 0 try-recv 1\n",
-        &[Totals {
-            channel: 0,
-            receiver: 1,
-            counts: Counts::Broadcast(BroadcastCounts {
-                received: 1,
-                told: 0,
-                lost: 0,
-                worst: 0,
-                worst_place: 0,
-                unread: Some(1),
-            }),
-        }],
+        &[of_broadcast(0, 1, [1, 0, 0, 0, 0], Some(1))],
     ),
     (
         "dropped_while_it_lags",
         b"broadcast 1\n0 0 send 0 1\n0 0 send 0 2\n0 0 send 0 3\n0 0 drop 1\n0 0 subscribe 0\n",
         &[
-            Totals {
-                channel: 0,
-                receiver: 1,
-                counts: Counts::Broadcast(BroadcastCounts {
-                    received: 0,
-                    told: 0,
-                    lost: 2,
-                    worst: 2,
-                    worst_place: 3,
-                    unread: None,
-                }),
-            },
-            Totals {
-                channel: 0,
-                receiver: 2,
-                counts: Counts::Broadcast(BroadcastCounts {
-                    received: 0,
-                    told: 0,
-                    lost: 0,
-                    worst: 0,
-                    worst_place: 0,
-                    unread: Some(0),
-                }),
-            },
+            of_broadcast(0, 1, [0, 0, 2, 2, 3], None),
+            of_broadcast(0, 2, [0, 0, 0, 0, 0], Some(0)),
         ],
     ),
     (
         "the_first_of_two_equal_lags",
         b"broadcast 1\n0 0 send 0 1\n0 0 send 0 2\n0 0 try-recv 1\n0 0 send 0 3\n0 0 try-recv 1\n0 0 try-recv 1\n",
-        &[Totals {
-            channel: 0,
-            receiver: 1,
-            counts: Counts::Broadcast(BroadcastCounts {
-                received: 1,
-                told: 2,
-                lost: 2,
-                worst: 1,
-                worst_place: 2,
-                unread: Some(0),
-            }),
-        }],
+        &[of_broadcast(0, 1, [1, 2, 2, 1, 2], Some(0))],
     ),
     (
         "lags_at_the_end",
         b"broadcast 2\n0 0 send 0 1\n0 0 send 0 2\n0 0 send 0 3\n0 0 send 0 4\n0 0 send 0 5\n0 0 receiver-len 1\n",
-        &[Totals {
-            channel: 0,
-            receiver: 1,
-            counts: Counts::Broadcast(BroadcastCounts {
-                received: 0,
-                told: 0,
-                lost: 3,
-                worst: 3,
-                worst_place: 5,
-                unread: Some(5),
-            }),
-        }],
+        &[of_broadcast(0, 1, [0, 0, 3, 3, 5], Some(5))],
     ),
     (
         "changes_between_looks",
@@ -159,18 +79,7 @@ static ROWS: [Row; 12] = [
         "two_channels",
         b"broadcast 1\nwatch 4\n0 1 send 0 5\n0 0 send 0 1\n0 0 send 0 2\n0 1 changed 1\n",
         &[
-            Totals {
-                channel: 0,
-                receiver: 1,
-                counts: Counts::Broadcast(BroadcastCounts {
-                    received: 0,
-                    told: 0,
-                    lost: 1,
-                    worst: 1,
-                    worst_place: 3,
-                    unread: Some(2),
-                }),
-            },
+            of_broadcast(0, 1, [0, 0, 1, 1, 3], Some(2)),
             of_watch(1, 1, [1, 0, 1]),
         ],
     ),

@@ -1,0 +1,43 @@
+// A text that is looked for in other texts as the page shows them, whatever the case of its letters.
+
+import { visible } from "../base/text.js";
+
+// Texts of these characters alone are shown as they are.
+const PLAIN = /^[ -~]*$/;
+const QUOTE = 34;
+const BACKSLASH = 92;
+
+// The small letter of each character of one byte, or else that character.
+const FOLDED = Uint8Array.from({ length: 256 }, (_, byte) => (byte < 128 ? String.fromCharCode(byte).toLowerCase().charCodeAt(0) : byte));
+
+export function folded(text) {
+  return text.toLowerCase();
+}
+
+export class Sought {
+  constructor(text) {
+    this.text = folded(visible(text));
+    this.isPlain = PLAIN.test(this.text);
+    this.pattern = new RegExp(this.text.replace(/[.*+?^${}()|[\]\\/]/g, "\\$&"), "i");
+    // As a text of JSON has it.
+    this.bytes = new TextEncoder().encode(this.text.replace(/["\\]/g, "\\$&"));
+  }
+
+  // Whether a text of a value has it.
+  isIn(text) {
+    return this.isPlain && PLAIN.test(text) ? this.pattern.test(text) : folded(visible(text)).includes(this.text);
+  }
+
+  // Whether a text of JSON has it that begins there with its quotation mark. It has plain characters alone, and escapes no others than that mark and
+  // `\`: so what is found from a whole character on doesn't go on behind its end.
+  isInPlain(json, start) {
+    const { bytes } = this;
+    if (!this.isPlain) return false;
+    for (let at = start + 1; json[at] !== QUOTE; at += json[at] === BACKSLASH ? 2 : 1) {
+      let same = 0;
+      while (same < bytes.length && FOLDED[json[at + same]] === bytes[same]) same++;
+      if (same === bytes.length) return true;
+    }
+    return bytes.length === 0;
+  }
+}

@@ -1,0 +1,70 @@
+#!/usr/bin/env -S python3 -B
+"""The seconds of a processor that the Rust crate takes to compile without optimisation, beside tokio 1.24.2 with all features and its dependencies.
+
+    tools/prices/compiling.py [CHECKOUT]
+
+Both are compiled at the same time on one processor, so what else the machine does slows down both. It prints one line, and fails if the crate takes
+more than 1.2 times what the last row `price.compiling` of `docs/design/figures.csv` says. It needs Debian's librust-tokio-dev, and writes only into
+out/prices, or into the folder that YOVANELUM_OUT names.
+"""
+import contextlib
+import csv
+import os
+import shutil
+import subprocess
+import sys
+
+TOP = os.path.dirname(os.path.dirname(os.path.dirname(os.path.realpath(__file__))))
+REGISTRY = "/usr/share/cargo/registry"
+TOKIO = 'tokio = { version = "=1.24.2", features = ["full"] }'
+MARGIN = 1.2
+
+
+def from_registry():
+    return ["--config", "source.crates-io.replace-with='debian'", "--config", f"source.debian.directory='{REGISTRY}'"]
+
+
+@contextlib.contextmanager
+def compiler(dependency, settings, folder):
+    """A package that has one dependency and nothing of its own, while cargo compiles it on the first processor that this process may use."""
+    shutil.rmtree(folder, ignore_errors=True)
+    os.makedirs(os.path.join(folder, "src"))
+    open(os.path.join(folder, "src/lib.rs"), "w", encoding="utf-8").close()
+    with open(os.path.join(folder, "Cargo.toml"), "w", encoding="utf-8") as file:
+        file.write(f'[package]\nname = "compiled"\nedition = "2024"\n[dependencies]\n{dependency}\n[workspace]\n')
+    variables = os.environ | settings | {"CARGO_INCREMENTAL": "0", "CARGO_TARGET_DIR": os.path.join(folder, "target"), "CARGO_NET_OFFLINE": "true"}
+    processor = str(min(os.sched_getaffinity(0)))
+    yield subprocess.Popen(["taskset", "-c", processor, "cargo", "build", "-q", "-j", "1", *from_registry()], cwd=folder, env=variables)
+    shutil.rmtree(folder)
+
+
+def seconds_of(started):
+    """Waits for a process. Returns the seconds of a processor that it took with those that it started."""
+    _, status, used = os.wait4(started.pid, 0)
+    if status != 0:
+        sys.exit(f"what is to be compiled isn't: {' '.join(started.args)}")
+    return used.ru_utime + used.ru_stime
+
+
+def compiled(checkout, settings, out):
+    """What a turn takes for tokio and for the crate of a checkout."""
+    ours = f'yovanelum = {{ path = "{os.path.join(os.path.abspath(checkout), "rust")}" }}'
+    with compiler(TOKIO, settings, os.path.join(out, "compiled-tokio")) as tokio, compiler(ours, settings, os.path.join(out, "compiled")) as crate:
+        return {"tokio": seconds_of(tokio), "none": seconds_of(crate)}
+
+
+def figure():
+    with open(os.path.join(TOP, "docs/design/figures.csv"), encoding="utf-8") as file:
+        return [float(row[4]) for row in csv.reader(file) if row[3] == "price.compiling"][-1]
+
+
+def main():
+    out = os.path.join(os.environ.get("YOVANELUM_OUT") or os.path.join(TOP, "out"), "prices")
+    took = compiled(sys.argv[1] if len(sys.argv) > 1 else TOP, {}, out)
+    ratio, most = took["none"] / took["tokio"], MARGIN * figure()
+    print(f"to compile takes {took['none']:.1f} s of a processor, and tokio {took['tokio']:.1f} s: {ratio:.2f} times, and at most {most:.2f}")
+    return 0 if ratio <= most else 1
+
+
+if __name__ == "__main__":
+    sys.exit(main())
