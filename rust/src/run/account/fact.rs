@@ -82,7 +82,7 @@ pub(crate) struct FactStep {
 }
 
 impl FactStep {
-    /// Returns a step of which nothing is known but this.
+    /// Returns a step with these parts, and without who made it, where and when.
     pub(super) fn new(place: u64, role: Role, cells: Cells) -> FactStep {
         FactStep {
             place,
