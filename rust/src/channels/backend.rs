@@ -17,6 +17,7 @@ use crate::core::source::rw_law::NoMemory;
 use crate::core::source::rw_recording::{self, BCall as B, ChanCall, Flight, Kind, WCall as W};
 use crate::run::calls::with_calls;
 use crate::run::journal::Run;
+use crate::run::operation::Operation;
 use crate::run::reply::Reply;
 
 /// The number of an actor, below 64.
@@ -302,35 +303,9 @@ fn nothing() -> Result<rw_recording::Recording, OpenFault> {
     Ok(nothing)
 }
 
-/// Whether the call with this word makes or drops a handle.
-macro_rules! is_of_handles {
-    (Subscribe) => {
-        true
-    };
-    (CloneSender) => {
-        true
-    };
-    (CloneReceiver) => {
-        true
-    };
-    (Resubscribe) => {
-        true
-    };
-    (Downgrade) => {
-        true
-    };
-    (Upgrade) => {
-        true
-    };
-    (CloneWeak) => {
-        true
-    };
-    (Drop) => {
-        true
-    };
-    ($other:ident) => {
-        false
-    };
+/// Whether a call creates or drops a handle.
+const fn is_of_handles(word: Operation) -> bool {
+    word.makes().is_some() || matches!(word, Operation::Drop)
 }
 
 /// The calls of the core by name: each becomes a method.
@@ -341,7 +316,7 @@ macro_rules! methods {
         impl Recording {
             $($(#[cfg_attr(not(debug_assertions), inline(always))]
             pub(crate) fn $name(&mut self, caller: Caller, $($arg: $type),*) -> Reply {
-                const OF_HANDLES: bool = is_of_handles!($word);
+                const OF_HANDLES: bool = is_of_handles(Operation::$word);
                 if cfg!(debug_assertions) {
                     return self.call_any(caller, ChanCall::$side($side::$variant $args));
                 }

@@ -113,7 +113,7 @@ impl Operation {
         words.find(|word| word.text() == text)
     }
 
-    fn row(self) -> &'static CallRow {
+    const fn row(self) -> &'static CallRow {
         &ROWS[self as usize]
     }
 
@@ -123,7 +123,7 @@ impl Operation {
     }
 
     /// The kind of handle that this call creates, if it isn't refused.
-    pub(crate) fn makes(self) -> Option<Kind> {
+    pub(crate) const fn makes(self) -> Option<Kind> {
         self.row().makes
     }
 
