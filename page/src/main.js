@@ -118,6 +118,12 @@ function openAtFirst(opener, comparing) {
   else showPart("welcome");
 }
 
+// The sign that the page is being read appears after a delay, which this counts from when the page was requested. A page that is still loading at the
+// first frame has a long run. A short one is loaded by then, and needs no sign.
+function hurrySign() {
+  if (document.readyState === "loading") for (const it of byId("busy").getAnimations()) it.currentTime = performance.now();
+}
+
 // Calls a function once the browser has read the page's file. Of a long run that takes a while.
 async function onceRead(call) {
   const isRead = () => document.readyState !== "loading" || new Promise(done => document.addEventListener("DOMContentLoaded", done));
@@ -127,6 +133,7 @@ async function onceRead(call) {
 
 // The debugger starts while the browser still reads the run, which is after this script in the page's file.
 function start() {
+  requestAnimationFrame(hurrySign);
   byId("key-list").replaceChildren(...keyRows());
   if (typeof WebAssembly === "undefined") {
     byId("busy").hidden = true;

@@ -81,6 +81,9 @@ interface Account {
   tasks: { text: string }[];
   /** How the test failed, with its line. Later writers have the test's name, the text of its panic as it is, and the last call before it too. */
   failed: { text: string; place: number; location?: [string, number, number] | null; name?: string; message?: string; call?: number | null } | null;
+  /** That a replay left the order that it followed, and which two steps decide whether the run fails, with the places of their calls. */
+  replay: { text: string, place?: number | null } | null;
+  race: { text: string, first: { text: string, place?: number | null }, then: { text: string, place?: number | null } } | null;
   failure: number | null;
   look: number;
 }

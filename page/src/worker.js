@@ -18,7 +18,7 @@ const requests = {
     starting = inflated(packed, "deflate").then(module => { engine = new Engine(module); });
     return starting;
   },
-  // A piece of the text that is opened next, where it begins, and how long all of it is. The buffer goes back to the page.
+  // A piece of the text that is opened or taken next, where it begins, and how long all of it is. The buffer goes back to the page.
   piece(bytes, at, length) {
     engine.write(bytes, at, length);
     return new Uint8Array(bytes.buffer);
@@ -28,11 +28,11 @@ const requests = {
     channels = opened.lives?.length ?? 0;
     return opened;
   },
-  // The text of the file of names of the opened run, or none.
-  name: names => engine.name(names),
+  // Takes the text as that of the file of names of the opened run, which is empty where there is none.
+  name: () => engine.name(),
   // What is found in the whole run.
   found: () => foundIn(engine, channels),
-  account: () => JSON.parse(engine.textOf("account")),
+  account: () => engine.textOf("account"),
   // How the opened run differs from another run of the same test: its journal text, and that of its names.
   against: (journal, names) => comparedWith(engine, journal, names),
   levels: (wanted, from, each, count) => levelsIn(engine, wanted, from, each, count),
@@ -46,8 +46,9 @@ const requests = {
   session: input => text(engine.call("session", input)),
 };
 
-// The lists of numbers of an answer are handed over, since copying them is slow.
+// The lists of numbers of an answer are handed over, since copying them is slow. A text has none, and each of its letters would be looked at.
 function handedOver(answer) {
+  if (typeof answer === "string") return [];
   const lists = answer?.buffer ? [answer] : [...Object.values(answer ?? {}), ...Object.values(answer?.columns ?? {})];
   return lists.filter(it => it?.buffer instanceof ArrayBuffer).map(({ buffer }) => buffer);
 }

@@ -115,4 +115,53 @@ def packed_by_open(tab, folder, journals):
         assert "ticks" in tab.text("state")
 
 
-TESTS = [first_calls, far_places, late_faults, packed_by_open]
+# In bytes: a long page, as one is whose journal isn't packed.
+LONG_PAGE = 57_000_000
+# What the sign of the work is in the first picture after the worker is made, with a clock that says until then that the page was asked for long ago; and
+# when it is seen.
+SIGN = """(() => {
+    const { now } = performance, { Worker } = window;
+    performance.now = () => 5_000;
+    window.Worker = class extends Worker {
+        constructor(...values) {
+            super(...values);
+            requestAnimationFrame(() => {
+                performance.now = now;
+                window.isWaiting = document.getElementById('busy').getAnimations().length > 0;
+            });
+        }
+    };
+    document.addEventListener('animationend', ({ target, timeStamp }) => {
+        if (target.id !== 'busy' || window.sign) return;
+        const isSeen = ['busy', 'busy-bar'].every(it => document.getElementById(it).checkVisibility({ checkOpacity: true }));
+        window.sign = { isSeen, timeStamp, text: target.textContent, state: document.readyState, parts: document.querySelectorAll('#journal, .journal').length };
+    });
+})()"""
+
+
+def unpacked_page(folder):
+    """A long page as an earlier crate wrote it: the text of the journal in elements of its own, and more in its names than this page uses."""
+    with open(native.PAGE, "rb") as file:
+        page = file.read()
+    pieces = [journal()[at:at + (1 << 20)] for at in range(0, len(journal()), 1 << 20)]
+    parts = [b'<script type="text/plain" %s="journal">\n%s</script>\n' % (b"class" if i else b"id", piece) for i, piece in enumerate(pieces)]
+    names = json.dumps({"channels": {}, "later": "x" * ((LONG_PAGE - len(page) - len(journal())) // 4 * 3)}).encode()
+    run = b'<script type="text/plain" id="run">\n%s\n%s\n</script>\n' % (base64.b64encode(b"long.journal"), base64.b64encode(names))
+    return opening.put(folder, "unpacked.html", page.replace(b'<script type="text/plain" id="run"></script>\n', run + b"".join(parts)))
+
+
+def sign_while_read(tab, folder, journals):
+    """While a long page is read, a sign with a bar says so from the first picture on, as far as the page was asked for a tenth of a second ago."""
+    path = unpacked_page(folder)
+    assert os.path.getsize(path) >= LONG_PAGE
+    tab.call("Page.addScriptToEvaluateOnNewDocument", source=SIGN)
+    tab.load(path, 0)
+    all_read(tab)
+    sign = tab.run("window.sign")
+    print(f"  a page of {LONG_PAGE / 1e6:.0f} MB: its sign is seen after {sign['timeStamp']:.0f} ms")
+    assert sign["isSeen"] and sign["text"] == "reading the page" and sign["state"] == "loading" and sign["parts"] == 0, sign
+    assert not tab.run("window.isWaiting"), "the sign waits, though the page was asked for long ago"
+    assert tab.text("facts").startswith(f"long.journal · {CALLS:,} calls"), tab.text("facts")
+
+
+TESTS = [sign_while_read, first_calls, far_places, late_faults, packed_by_open]

@@ -64,7 +64,7 @@ test("after a trap the run and its names are there again for the next requests, 
   const answers = await Promise.all([client.request("account"), client.request("ask", "list\n"), client.request("account")]);
   assert.deepEqual([answers[0], answers[2]], [wanted, wanted]);
   assert.equal(answers[1].split("\n").length, 4);
-  assert.deepEqual(client.worker.requests.slice(before), ["account", "ask", "account", "piece", "open", "name", "account", "ask", "account"]);
+  assert.deepEqual(client.worker.requests.slice(before), ["account", "ask", "account", "piece", "open", "piece", "name", "account", "ask", "account"]);
 });
 
 test("a run that traps while it is opened again is a fault, and another one can be opened", async () => {
@@ -92,6 +92,23 @@ test("names that aren't read are a fault, and none are there when the run is ope
   assert.doesNotMatch(JSON.stringify(await client.request("account")), /shop/);
 });
 
+test("names that are passed on after a trap are those of the run that is opened again for them", async () => {
+  const client = await opened();
+  trapIn("account");
+  await assert.rejects(client.request("account"), { message: "unreachable" });
+  await client.name(bytes('{"actors": {"0": "bank"}}'));
+  assert.match(await client.request("account"), /bank/);
+});
+
+test("long names are passed on in pieces of one buffer too", async () => {
+  const client = await opened();
+  const [before, pieces] = [client.worker.requests.length, client.worker.pieces.length];
+  await client.name(bytes(`{"actors": {"0": "${"long ".repeat(500_000)}"}}`));
+  assert.deepEqual(client.worker.requests.slice(before), ["piece", "piece", "piece", "name"]);
+  assert.ok(client.worker.pieces.slice(pieces).every(it => it.byteLength === 0), "the pieces are handed over");
+  assert.match(await client.request("account"), /long long/);
+});
+
 test("a long text is passed on in pieces of one buffer, and nothing is asked of it before all of it is there", async () => {
   const client = await opened();
   const long = sends(120_000);
@@ -111,4 +128,20 @@ test("two runs that are opened at once are opened one after the other", async ()
   const opened = await Promise.all([client.open(sends(60_000), []), client.open(sends(70_000), [])]);
   assert.deepEqual(opened.map(it => it.lastPlace), [60_000, 70_000]);
   assert.equal((await client.request("ask", "list\n")).split("\n").length, 70_001);
+});
+
+test("the letters of an answer that is a text aren't looked at", async () => {
+  const client = await opened();
+  const { values } = Object;
+  const seen = [];
+  Object.values = of => {
+    seen.push(typeof of);
+    return values(of);
+  };
+  try {
+    assert.match(await client.request("ask", "list\n"), /^#1 /);
+  } finally {
+    Object.values = values;
+  }
+  assert.ok(!seen.includes("string"), seen);
 });

@@ -2,8 +2,9 @@
 
 import assert from "node:assert/strict";
 import test from "node:test";
+import { Hits } from "../src/run/hits.js";
 import { Closed, Fault } from "../src/worker/engine.js";
-import { hitsOf, levelsIn, lossesOf, salvagedFrom, statesAt } from "../src/worker/found.js";
+import { hitsOf as bitsOf, levelsIn, lossesOf, salvagedFrom, statesAt } from "../src/worker/found.js";
 import { openRun } from "../src/worker/opening.js";
 import { builtEngine, journalOf, opened } from "./built_engine.js";
 
@@ -11,6 +12,12 @@ const bytes = text => new TextEncoder().encode(text);
 
 // A journal text of `count` sends, of which nobody receives one.
 const sends = (count, heads = ["broadcast 2"]) => journalOf(heads, Array.from({ length: count }, (_, i) => `0 0 send 0 ${i} = sent 1`));
+
+// The places of the calls that have a text.
+function hitsOf(engine, wanted) {
+  const hits = new Hits(bitsOf(engine, wanted));
+  return Array.from({ length: hits.length }, (_, i) => hits.at(i));
+}
 
 // The spans of how much the receiver has to receive, in `stretches` stretches of one place from the first call on.
 const spans = (engine, stretches) => levelsIn(engine, [0], 1, 1, stretches).map(({ channel, receiver, spans }) => [channel, receiver, ...spans]);
@@ -60,7 +67,14 @@ test("a script is run up to the call that would wait, and its run has a journal 
   const { journal, waitingLine, lastPlace, columns } = openRun(builtEngine(), bytes("broadcast 2\nactors 2\n0 0 send 0 7\n1 0 recv 1\n1 0 recv 1\n---\nlist\n"), []);
   assert.equal(new TextDecoder().decode(journal), journalOf(["broadcast 2"], ["0 0 send 0 7 = sent 1", "1 0 recv 1 = value 7"]));
   assert.deepEqual([waitingLine, lastPlace, [...columns.actors], columns.actorCount], [5, 2, [0, 0, 1], 2]);
-  assert.deepEqual([...columns.starts].map(start => new TextDecoder().decode(journal.subarray(start, start + 5))).slice(1), ["1 0 0", "2 1 0", "end\n"]);
+  assert.deepEqual([...columns.starts].map(start => new TextDecoder().decode(journal.subarray(start, start + 5))), ["1 0 0"]);
+});
+
+test("numbers of handles are told whatever their size", () => {
+  for (const [least, List] of [[65_535, Uint16Array], [65_536, Uint32Array], [2 ** 32 - 1, Uint32Array]]) {
+    const { columns } = openRun(builtEngine(), bytes(journalOf(["broadcast 2"], [`0 0 try-recv ${least} = unknown`, "0 0 try-recv 1 = empty"])), []);
+    assert.deepEqual(columns.handles, List.of(0, least, 1));
+  }
 });
 
 test("each entry of a long run is answered", () => {
@@ -95,7 +109,7 @@ test("a text that is written in pieces is opened when all are there, and a trap 
 test("memory that was refused is said", () => {
   const engine = opened(sends(3));
   engine.exports = { ...engine.exports, refused: () => 1, losses: () => { throw new WebAssembly.RuntimeError("unreachable"); } };
-  assert.throws(() => lossesOf(engine, 3), { message: "no memory" });
+  assert.throws(() => lossesOf(engine), { message: "no memory" });
   // More than a module has.
   assert.throws(() => engine.put({ byteLength: 2 ** 32 - 1 }), { message: "no memory" });
   assert.throws(() => engine.write(new Uint8Array(1), 0, 2 ** 32 - 1), { message: "no memory" });
@@ -129,12 +143,12 @@ test("a truncated journal has its whole lines", () => {
 test("a text is found in the words of calls and replies, behind a lead by the real numbers", () => {
   const nothing = { names: "", actors: new Uint8Array(2), channels: new Uint8Array(1), located: new Uint8Array(), handles: [[]], values: [[]] };
   const entries = ["0 0 subscribe 0 = new 2", "0 0 send 0 7 = sent 2", "1 0 try-recv 2 = value 7", "1 0 receiver-count 0 = count 2", "1 0 receiver-len 1 = count 1"];
-  const find = (engine, text, more = {}) => [...hitsOf(engine, { text, ...nothing, ...more })];
+  const find = (engine, text, more = {}) => hitsOf(engine, { text, ...nothing, ...more });
   const engine = opened(journalOf(["broadcast 2"], entries));
   assert.deepEqual(["try-recv 2", "7", "new 2", "count", "1 0", "=", ""].map(text => find(engine, text)), [[3], [2, 3], [1], [4, 5], [], [], [1, 2, 3, 4, 5]]);
   const none = "nothing has it";
-  assert.deepEqual([find(engine, none, { actors: Uint8Array.of(0, 1) }), find(engine, none, { handles: [[2n]] }), find(engine, none, { values: [[7n]] }),
-    find(engine, none, { channels: Uint8Array.of(1) })], [[3, 4, 5], [3], [2, 3], [1, 2, 3, 4, 5]]);
+  assert.deepEqual([find(engine, none, { actors: Uint8Array.of(0, 1) }), find(engine, none, { handles: [[2]] }), find(engine, none, { values: [[7]] }),
+    find(engine, none, { values: [BigUint64Array.of(7n, 2n ** 40n)] }), find(engine, none, { channels: Uint8Array.of(1) })], [[3, 4, 5], [3], [2, 3], [2, 3], [1, 2, 3, 4, 5]]);
   assert.deepEqual(find(engine, none, { located: Uint8Array.of(0, 0, 0, 1, 0, 0) }), [3]);
   const waited = JSON.stringify({ waited: { 0: [3] } });
   assert.deepEqual([find(engine, "closed 0", { names: waited }), find(engine, "receiver-count", { names: waited })], [[4], []]);
@@ -150,7 +164,7 @@ test("a text is found in a line that differs from an earlier one in its numbers 
     "0 1 modify 0 3 no = told no", "0 1 modify 0 4 yes = told yes", "0 1 send 0 12 = stored"];
   const engine = opened(journalOf(["broadcast 2", "watch 0"], entries));
   const wanted = { "send 0 12": [2, 7], "e 12": [4], " 12": [2, 4, 7], no: [5], yes: [6], "told yes": [6], "3 n": [5], "send 0 3": [], 9: [], "12 = ": [], stored: [7], thumbnail: [] };
-  const found = Object.fromEntries(Object.keys(wanted).map(text => [text, [...hitsOf(engine, { text, ...nothing })]]));
+  const found = Object.fromEntries(Object.keys(wanted).map(text => [text, hitsOf(engine, { text, ...nothing })]));
   assert.deepEqual(found, wanted);
 });
 
@@ -166,7 +180,7 @@ test("any part of a line is found in all lines that have it, and nowhere else", 
   const parts = new Set(lines.flat().flatMap(part => Array.from(part, (_, from) => Array.from(part.slice(from), (_, i) => part.slice(from, from + i + 1))).flat()));
   for (const text of [...parts, "00", "01", "1 0", "send 0 1 ", "sent 00", "99", "18446744073709551616"]) {
     const wanted = lines.flatMap((of, i) => (of.some(part => part.includes(text)) ? [i + 1] : []));
-    assert.deepEqual([...hitsOf(engine, { text, ...nothing })], wanted, text);
+    assert.deepEqual(hitsOf(engine, { text, ...nothing }), wanted, text);
   }
   assert.ok(parts.size > 300, parts.size);
 });

@@ -221,7 +221,7 @@ WANTED = {
 @functools.cache
 def make_package():
     """Writes the package into the tests' output folder, once. What was built of it before stays."""
-    for name in ("src/lib.rs", "src/bin/why.rs", "tests/failing.rs", "tests/first_look.rs"):
+    for name in ("src/lib.rs", "src/bin/why.rs", "tests/failing.rs", "tests/first_look.rs", "tests/orders.rs"):
         path = os.path.join(PACKAGE, name)
         os.makedirs(os.path.dirname(path), exist_ok=True)
         shutil.copyfile(os.path.join(SOURCES, name), path)

@@ -1,4 +1,4 @@
-"""What someone sees first of the pages of nine failing tests, before a click: what went wrong, where and for whom, as first_look.csv has it, which was
+"""What someone sees first of the pages of eleven failing tests, before a click: what went wrong, where and for whom, as first_look.csv has it, which was
 written before the page answered it."""
 import csv
 import functools

@@ -2,6 +2,7 @@
 
 import assert from "node:assert/strict";
 import test from "node:test";
+import { lossesIn } from "../src/run/losses.js";
 import { foundIn, lossesOf } from "../src/worker/found.js";
 
 const NONE = 2 ** 32 - 1;
@@ -33,7 +34,7 @@ test("a run in which nothing is found", () => {
 });
 
 test("losses, of which one is open past the last place", () => {
-  assert.deepEqual(lossesOf(answering([0, 1, 3, 2, 0, 7, 2, 5, 4, 1, 2, NONE, 1, 2, 5, 1, 1, 6]), 9), [
+  assert.deepEqual(lossesIn(lossesOf(answering([0, 1, 3, 2, 0, 7, 2, 5, 4, 1, 2, NONE, 1, 2, 5, 1, 1, 6])), 9), [
     { channel: 0, receiver: 1, from: 3, lost: 2, end: "told", to: 7 },
     { channel: 2, receiver: 5, from: 4, lost: 1, end: "open", to: 10 },
     { channel: 1, receiver: 2, from: 5, lost: 1, end: "dropped", to: 6 },

@@ -8,10 +8,11 @@ import { Folds } from "../src/draw/folds.js";
 import { Frame } from "../src/draw/frame.js";
 import { ActorDots, Overview } from "../src/draw/from_far.js";
 import { BAND, inSight, layOut, rowsOf } from "../src/draw/layout.js";
-import { drawStrip, stripRow } from "../src/draw/strip.js";
+import { drawStrip, drawStripCursor, stripRow } from "../src/draw/strip.js";
 import { View } from "../src/draw/view.js";
 import { receiversOf } from "../src/findings/receivers.js";
 import { unlookedBy } from "../src/findings/unlooked.js";
+import { Hits } from "../src/run/hits.js";
 import { readNames } from "../src/run/names.js";
 import { Shown } from "../src/run/shown.js";
 import { PALETTE, Random, keepingPen, openedRun, randomScript } from "./random_runs.js";
@@ -206,6 +207,19 @@ test("of a name that is a place the line stays, and as much of what is before it
   assert.deepEqual([200, 92, 91, 48, 40, 20].map(width => fittedName(pen, name, width)), 
     [name, name, "task of test…bus.rs:66", "ta…bus.rs:66", "…bus.rs:66", "…s:66"]);
   assert.equal(fittedName(pen, "nightly-export", 24), "night…");
+  // A search of the whole would take an hour.
+  assert.match(fittedName(pen, "i".repeat(3_000_000), 48), /^i+…$/);
+  assert.match(fittedName(pen, `${"i".repeat(3_000_000)}/bus.rs:66`, 80), /^i+…bus\.rs:66$/);
+});
+
+test("the names in a row that several receivers share are between its line and its border", async () => {
+  const some = Array.from({ length: 20 }, (_, i) => `0 0 subscribe 0\n0 0 drop ${i + 2}\n`);
+  const { pen, bands } = await drawn(await openedRun(`broadcast 2\n${some.join("")}`), 40);
+  const shared = bands[0].rows.filter(({ lives }) => lives.length > 1);
+  const names = shared.flatMap(row => pen.texts.filter(({ y, text }) => y > row.base && y < row.y + row.height && text.startsWith("receiver ")).map(({ y }) => [row, y]));
+  // Letters of 11 points, and the line of 3.
+  for (const [row, y] of names) assert(y - 5.5 >= row.base + 3 && y + 5.5 <= row.y + row.height - 1, JSON.stringify([row, y]));
+  assert(names.length > 4, `${names.length}`);
 });
 
 test("from far a stretch of places has the greatest level in it", async () => {
@@ -307,3 +321,19 @@ function checkReceiver(run, { channel, life, received, lost, told, never, greate
   const wanted = [replies("value").length, toldOf + last, toldOf, last, Math.max(...lags), atEnd ? atEnd.unread - atEnd.lag : null];
   assert.deepEqual([received, lost, told, never, greatest, rest], wanted, `seed ${seed}, ${channel}.${life.handle}`);
 }
+
+test("hits are marked once for each point of the strip, and those between aren't looked at", () => {
+  const random = new Random(9);
+  for (const [last, share] of [[40, 1], [900, 0.5], [200_000, 1], [200_000, 0.001], [200_000, 0]]) {
+    const hits = Array.from({ length: last }, (_, i) => i + 1).filter(() => random.below(1000) < 1000 * share);
+    const pen = keepingPen();
+    const frame = new Frame(0, last, 700, 84);
+    let looks = 0;
+    const seen = Object.assign(Object.create(frame), { middle: place => { looks++; return frame.middle(place); } });
+    drawStripCursor({ pen, frame: seen, palette: PALETTE, height: 20, hits: Hits.of(hits), view: { from: 0, to: last, place: 0 } });
+    const marks = pen.boxes.filter(it => it.colour === "hit");
+    assert.deepStrictEqual(marks.map(({ x }) => x + 1), [...new Set(hits.map(place => Math.round(frame.middle(place))))]);
+    assert.ok(marks.every(it => it.y === 10 && it.width === 2 && it.height === 10));
+    assert.ok(looks <= 2 + 20 * marks.length, `${looks} looks for ${marks.length} points`);
+  }
+});

@@ -93,7 +93,7 @@ export async function openedRun(script) {
     found: () => foundIn(engine, opened.opening.channels.length),
     levels: (channels, from, each, count) => levelsIn(engine, channels, from, each, count),
     states: places => statesAt(engine, places),
-    account: () => JSON.parse(engine.textOf("account")),
+    account: () => engine.textOf("account"),
     name: bytes => engine.name(bytes),
   };
   const run = new Run({ request: async (request, ...values) => requests[request](...values) }, opened, new Names());

@@ -26,6 +26,7 @@ import lives
 import looks
 import losses
 import native
+import orders
 import owners
 import rows
 import runs
@@ -66,7 +67,7 @@ TESTS = [
     hands.waiting_script, hands.refusals, hands.example, hands.files_that_are_not_there, hands.addresses, shown.large_runs,
     shown.quick_walking, shown.many_handles, weak.weak_senders, weak.weak_rows, texts.large_numbers, texts.long_texts, speed.names_take_little, speed.figures,
     *dropped.TESTS, *losses.TESTS, *lives.TESTS, *sources.TESTS, *failing.TESTS, *accounts.TESTS, *layout.TESTS, *search.TESTS, *story.TESTS, *tasks.TESTS,
-    *against.TESTS, *windows.TESTS, *beginning.TESTS, *first_look.TESTS, *looks.TESTS, *faults.TESTS,
+    *against.TESTS, *windows.TESTS, *beginning.TESTS, *first_look.TESTS, *orders.TESTS, *looks.TESTS, *faults.TESTS,
     bare(answers.example_sessions), random_commands, spoiled_texts,
 ]
 
@@ -79,7 +80,7 @@ SLOW = {speed.figures, shown.large_runs, shown.quick_walking, shown.many_handles
 LONGER = {accounts.cause_in_whole, layout.nothing_over_anything, against.same_as_a_plain_model}
 
 # Those that open what the tests of `failing` have left, which cargo runs once for all of them.
-OF_FAILING = {*accounts.TESTS, *against.TESTS, *failing.TESTS, *layout.TESTS, *search.TESTS, *story.TESTS, *first_look.TESTS, *looks.OF_FAILING, *faults.TESTS, jumps.report_as_markdown}
+OF_FAILING = {*accounts.TESTS, *against.TESTS, *failing.TESTS, *layout.TESTS, *search.TESTS, *story.TESTS, *first_look.TESTS, *orders.TESTS, *looks.OF_FAILING, *faults.TESTS, jumps.report_as_markdown}
 
 
 def fault_of(name, run):

@@ -2,6 +2,7 @@
 // NAME.account (rust/tests/calls/storm.rs). Its losses are those that the engine finds, and levels and states agree with them. Prints how many runs.
 import assert from "node:assert/strict";
 import { readFileSync, readdirSync } from "node:fs";
+import { lossesIn } from "../src/run/losses.js";
 import { foundIn, lossesOf, statesAt } from "../src/worker/found.js";
 import { openRun } from "../src/worker/opening.js";
 import { readStates } from "../src/run/states.js";
@@ -27,7 +28,7 @@ function check(name) {
   engine.name(read("names"));
   const account = JSON.parse(read("account"));
   assert.deepEqual(JSON.parse(engine.textOf("account")), account, name);
-  const losses = lossesOf(engine, opened.lastPlace).map(loss => ({ ...loss, to: loss.end === "open" ? null : loss.to }));
+  const losses = lossesIn(lossesOf(engine), opened.lastPlace).map(loss => ({ ...loss, to: loss.end === "open" ? null : loss.to }));
   assert.deepEqual(losses.map(({ channel, receiver, from, to, lost, end }) => ({ channel, receiver, from, to, lost, end })), account.losses, name);
   const places = Array.from({ length: opened.lastPlace + 1 }, (_, place) => place);
   const lost = lostIn(readStates(statesAt(engine, places), opened.lives.length, opened.lastPlace));

@@ -2,6 +2,7 @@
 import json
 import os
 import time
+import zlib
 
 import native
 import opening
@@ -25,17 +26,24 @@ MARGIN, BUSY = 2, 50
 IDLE = 0.8
 
 # By the channels, actors and calls of a pool, the seconds of processors that the tab may take until its first picture, from there until what is
-# found in it is shown, for a jump to a place whose states aren't loaded, for the answer to a stop, and for a search for a text that many calls have. A
-# machine that is slow or busy takes up to three times as long.
+# found in it is shown, for a jump to a place whose states aren't loaded, for the answer to a stop, and for each search with its jump. A machine that is
+# slow or busy takes up to three times as long.
 JUMP_AND_STOP = {"cold jump": 0.1, "stop": 0.1}
 POOLS = {
     (64, 64, 100_000): {"first picture": 0.5, "findings": 1, **JUMP_AND_STOP},
-    (16, 16, 1_000_000): {"first picture": 1, "findings": 3, **JUMP_AND_STOP, "search": 0.3},
+    (16, 16, 1_000_000): {"first picture": 1, "findings": 3, **JUMP_AND_STOP, "word": 0.3, "number": 0.3, "text": 0.3},
 }
 PROCESSOR_MARGIN = 3
 
-# How far into a pool its jump leads, and how many megabytes the tab's process may have had by then.
-JUMP, MOST_MEGABYTES = 0.77, 480
+# What is searched for: a word that most calls have, a number that none has, and a part of every third text of a value.
+SEARCHES = {"word": "try-recv", "number": "7777777", "text": "thumbnail"}
+IS_SHOWN = "Number(document.getElementById('state').dataset.place) === document.getElementById('slider').valueAsNumber"
+
+# How far into a pool its jump leads, and how many megabytes the tab's process may have had after all searches.
+JUMP, MOST_MEGABYTES = 0.77, 440
+
+# How many times as many bytes as a long journal, packed and in base64, its page may have, with the names and all else.
+MOST_OF_PACKED = 1.3
 
 # When the state at the first place is shown.
 WATCH = """new MutationObserver((_, observer) => {
@@ -111,6 +119,13 @@ def most_megabytes(browser):
     return most
 
 
+def seek(tab, text):
+    """Searches for a text, and waits until what was found is shown."""
+    tab.run("document.getElementById('found').textContent = ''")
+    search.seek(tab, text)
+    tab.wait(f"/^(hit|no call) /.test({search.HIT}) && {IS_SHOWN}")
+
+
 def pool(tab, folder, size, promised):
     """What a pool with a text for each value takes of processors, which a busy machine changes less than the time that passes, and of memory."""
     tab.call("Page.addScriptToEvaluateOnNewDocument", source=WATCH)
@@ -118,6 +133,7 @@ def pool(tab, folder, size, promised):
     journal, names = real_runs.pool_of(*size)
     opening.put(folder, "speed_pool.names", names)
     path = opening.page_of(folder, "speed_pool.journal", journal)
+    packed = 4 / 3 * len(zlib.compress(journal))
     jump = int(JUMP * size[2])
     waits = {
         "first picture": lambda: (tab.load(path), tab.wait("window.shownAt")),
@@ -125,7 +141,7 @@ def pool(tab, folder, size, promised):
         "strip": lambda: tab.run("ttd.ask('')"),
         "cold jump": lambda: (tab.run(f"location.hash = '#call={jump}'"), opening.settle(tab, jump)),
         "stop": lambda: tab.run("ttd.ask('start\\nrforward reply lagged\\n')"),
-        "search": lambda: (search.seek(tab, "try-recv"), tab.wait(f"{search.HIT}.startsWith('hit ')")),
+        **{name: lambda text=text: seek(tab, text) for name, text in SEARCHES.items()},
     }
     tab.load(native.PAGE)
     took, since = {}, processor_seconds(tab)
@@ -135,9 +151,10 @@ def pool(tab, folder, size, promised):
         took[name], since = until - since, until
     megabytes = most_megabytes(tab.browser)
     print(f"  {size[2]:,} calls on {size[0]} channels, seconds of processors: " + ", ".join(f"{name} {taken:.2f}" for name, taken in took.items())
-          + f"; {megabytes} MB")
+          + f"; {megabytes} MB; the file {os.path.getsize(path) / 1e6:.1f} MB, of the packed journal {os.path.getsize(path) / packed:.2f}")
     assert all(took[name] < PROCESSOR_MARGIN * most for name, most in promised.items()), "takes more of processors than it may"
     assert megabytes <= MOST_MEGABYTES, "takes more of memory than it may"
+    assert size[2] < LONG or os.path.getsize(path) <= MOST_OF_PACKED * packed, "the file has more bytes than it may"
 
 
 # How many bytes of a script's memory a call may take for its texts and its place in the sources, on top of a run without them.

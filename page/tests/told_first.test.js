@@ -6,6 +6,7 @@ import { partsOf } from "../src/draw/parts.js";
 import { placedLabels } from "../src/draw/story.js";
 import { aligned, plainText } from "../src/findings/account_text.js";
 import { failureLines } from "../src/findings/failure.js";
+import { readNames } from "../src/run/names.js";
 
 test("names stand without backquotes, and counts in groups, but for what is quoted or is a line of a file", () => {
   const texts = {
@@ -43,6 +44,17 @@ test("a failure is the panic in its own words, or of an earlier writer the line 
   assert.deepEqual(lines({ failed }, { hangs: true, test: "a_test" })[0], "a_test failed at tests/a.rs:7:");
 });
 
+test("before a failure is said that a replay is another run, and behind it the race, in words without backquotes", () => {
+  const [replay, race] = ["from call 2 on, this is another run", "it fails where `a` made x"].map(text => ({ text }));
+  const lines = failureLines({ account: { failed: { place: 9, text: "a" }, replay, race }, names: { ending: {} } });
+  assert.deepEqual(lines, ["from call 2 on, this is another run", "failed: a", "the race: it fails where a made x"]);
+});
+
+test("a thread without a name is called as the account calls it", () => {
+  const names = readNames('{"actors": {"0": "ThreadId(14)", "1": "ThreadId(x)", "2": "clerk"}}');
+  assert.deepEqual([0, 1, 2, 3].map(it => names.shortActor(it)), ["thread 14", "ThreadId(x)", "clerk", "actor 3"]);
+});
+
 // A run of one broadcast with a sender and as many receivers as this, whose calls are sends and receives of these handles.
 function runOf(receivers, handles, account) {
   const life = (handle, kind) => ({ handle, kind, from: 0, to: handles.length + 1, user: 0, last: 0 });
@@ -62,6 +74,11 @@ test("the rows that the account tells of are the first, in its order, each alone
     [["sender", [0], "overwrote"], ["receiver", [38], "lost 5"], ["receiver", [24], "lost 1,200, never told"]]);
   assert.deepEqual([rows[3].part, rows.length], [undefined, 41]);
   assert.deepEqual(rowsOf(run).flat().map(({ part }) => part).filter(it => it), []);
+});
+
+test("a receiver has a word for what it waited for in vain, or marked without a look", () => {
+  const of = fact => partsOf(runOf(2, [0, 1], { facts: [{ channel: 0, text: [""], places: [], ...fact }], rest: { after: 1 } })).get(0).get(1).word;
+  assert.deepEqual([{ kind: "dropped", handle: 1 }, { kind: "wait", handle: 1 }, { kind: "unlooked", receiver: 1, changes: 1200 }].map(of), ["waited", "waits", "marked 1,200 unseen"]);
 });
 
 test("labels of steps on one point lie over none of each other", () => {

@@ -5,10 +5,17 @@
 mod allocated;
 
 use allocated::allocated;
+use std::sync::{Mutex, MutexGuard, PoisonError};
 use yovanelum::{Recorder, broadcast, watch};
 
 type Broadcast = (broadcast::Sender<u64>, broadcast::Receiver<u64>);
 type Watch = (watch::Sender<u64>, watch::Receiver<u64>);
+
+/// Has the tests run one after another.
+fn alone() -> MutexGuard<'static, ()> {
+    static ALONE: Mutex<()> = Mutex::new(());
+    ALONE.lock().unwrap_or_else(PoisonError::into_inner)
+}
 
 /// Some channels of both kinds, and how many bytes were allocated when they were opened.
 struct Channels {
@@ -65,6 +72,7 @@ const ENTRY: usize = 64;
 
 #[test]
 fn what_is_not_recorded_takes_no_memory_for_entries() {
+    let _alone = alone();
     // What a thread or the process allocates once is allocated here.
     played();
     let (plain, plain_after_more) = played();
@@ -85,4 +93,71 @@ fn what_is_not_recorded_takes_no_memory_for_entries() {
     );
     // The calls, and two drops of each channel.
     assert_eq!(recorder.len(), 2 * COUNT as u64 * (2 * CALLS + 2));
+}
+
+/// Returns how many bytes a channel has, with its two handles, of those that this opens.
+fn bytes_of_each<H>(is_recorded: bool, open: impl Fn() -> H) -> usize {
+    const PAIRS: usize = 60;
+    // A recorder has 64 channels.
+    let recorder = is_recorded.then(Recorder::new);
+    let _entered = recorder.as_ref().map(Recorder::enter);
+    let mut pairs = Vec::with_capacity(PAIRS);
+    // What a thread or the process allocates once is allocated here.
+    drop(open());
+    let at_start = allocated();
+    pairs.resize_with(PAIRS, open);
+    (allocated() - at_start) / PAIRS
+}
+
+#[test]
+fn a_channel_that_is_opened_takes_a_kilobyte_and_a_half_at_most() {
+    const MOST: usize = 1536;
+    let _alone = alone();
+    for is_recorded in [false, true] {
+        let bytes = [
+            bytes_of_each(is_recorded, || broadcast::channel::<u64>(16)),
+            bytes_of_each(is_recorded, || watch::channel(0_u64)),
+        ];
+        assert!(bytes.iter().all(|bytes| *bytes <= MOST), "{bytes:?}");
+    }
+}
+
+#[test]
+fn a_handle_has_two_words() {
+    let sizes = [
+        size_of::<broadcast::Sender<u64>>(),
+        size_of::<broadcast::Receiver<u64>>(),
+        size_of::<broadcast::WeakSender<u64>>(),
+        size_of::<watch::Sender<u64>>(),
+        size_of::<watch::Receiver<u64>>(),
+    ];
+    assert_eq!(sizes, [16; 5]);
+}
+
+/// How many faults of pages this process has had that needed no disk.
+#[cfg(all(target_os = "linux", target_env = "gnu"))]
+fn faults() -> u64 {
+    let line = std::fs::read_to_string("/proc/self/stat").unwrap();
+    let (_, behind) = line.rsplit_once(')').unwrap();
+    behind.split_whitespace().nth(7).unwrap().parse().unwrap()
+}
+
+#[cfg(all(target_os = "linux", target_env = "gnu"))]
+#[test]
+fn a_recorder_is_served_by_the_memory_of_those_that_ended() {
+    let _alone = alone();
+    let faults_of_one = || {
+        let before = faults();
+        let recorder = Recorder::new();
+        let _entered = recorder.enter();
+        let (tx, mut rx) = broadcast::channel(16);
+        for value in 0..CALLS {
+            tx.send(value).unwrap();
+            assert_eq!(rx.try_recv(), Ok(value));
+        }
+        faults() - before
+    };
+    let [_, _, third] = [(); 3].map(|()| faults_of_one());
+    // The calls alone are 2,188 pages, or 512 and a few large ones.
+    assert!(third < 256, "{third} faults");
 }

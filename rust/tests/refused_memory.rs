@@ -233,6 +233,25 @@ fn a_flight_recorder_that_finds_no_memory_loses_a_dump_and_no_call() {
 }
 
 #[test]
+fn a_channel_whose_last_calls_find_no_memory_is_recorded_by_none() {
+    let recorder = Recorder::flight(1_000);
+    let _entered = recorder.enter();
+    // The channel has one block above 64 KiB, of 65,536 values, and so has each of its copies.
+    let refusal = Refusal {
+        least: 64 << 10,
+        ..Refusal::only(1)
+    };
+    let ((tx, mut rx), refused) = refusing(refusal, || broadcast::channel(65_536));
+    assert_eq!(refused, 1);
+    tx.send(7).unwrap();
+    assert_eq!(rx.try_recv(), Ok(7));
+    assert_eq!(recorder.len(), 0);
+    let (later, _rx) = broadcast::channel(4);
+    later.send(8).unwrap();
+    assert_eq!(recorder.len(), 1);
+}
+
+#[test]
 fn the_last_calls_of_a_channel_go_on_where_a_chunk_finds_no_memory() {
     // A chunk of fewer calls would grow, since it copies the handles.
     let recorder = Recorder::flight(2_100);

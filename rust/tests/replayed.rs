@@ -140,7 +140,8 @@ impl Part {
         with(&mut part);
         let ran = part.output().unwrap();
         let said = String::from_utf8(ran.stderr).unwrap();
-        let lines = said.lines().filter(|line| {
+        let lines = said.lines().filter(|line| !line.starts_with(ANOTHER_RUN));
+        let lines = lines.filter(|line| {
             line.starts_with("replay: ")
                 || line.starts_with("yovanelum: ") && line.to_lowercase().contains("replay")
         });
@@ -164,6 +165,9 @@ impl Part {
 }
 
 const LINE: &str = "yovanelum: replay of ann_is_the_first.journal: ";
+
+/// How the line of a report begins that says where a replay became another run.
+const ANOTHER_RUN: &str = "yovanelum: from call ";
 
 #[test]
 fn a_failure_comes_back_and_its_journal_stays() {
@@ -273,14 +277,28 @@ fn a_replay_that_diverged_and_failed_says_how_to_compare_it() {
         replay.env("YOVANELUM_REPLAY", part.journal());
         let said = replay.env(EDITED, edited).arg("--nocapture").output();
         let said = String::from_utf8(said.unwrap().stderr).unwrap();
-        let lines = said.lines().filter_map(|it| it.strip_prefix("compare: "));
-        lines.map(String::from).collect::<Vec<_>>()
+        let beginning = |start: &str| {
+            let lines = said.lines().filter_map(|it| it.strip_prefix(start));
+            lines.map(String::from).collect::<Vec<_>>()
+        };
+        [beginning("compare: "), beginning(ANOTHER_RUN)]
     };
     part.record();
     let again = part.journal().with_extension("replayed.journal");
     let paths = [quoted(&again), quoted(&part.journal())];
     let wanted = format!("yovanelum why {} --against {}", paths[0], paths[1]);
-    assert_eq!(compared("asks first"), [wanted]);
+    let [compare, another] = compared("asks first");
+    assert_eq!(compare, [wanted]);
+    // The first call is the send, and the receive comes behind what the clerk does.
+    let is_second = |line: &String| {
+        line.starts_with(
+            "2 on, this is another run than that of ann_is_the_first.journal: the replay diverges at call 2 of 6: expected ",
+        )
+    };
+    assert!(
+        another.len() == 1 && another.iter().all(is_second),
+        "{another:?}"
+    );
     let answer = Command::new(env!("CARGO_BIN_EXE_yovanelum"))
         .arg("why")
         .arg(&again)
@@ -293,7 +311,7 @@ fn a_replay_that_diverged_and_failed_says_how_to_compare_it() {
         "{answer}"
     );
     // In the recorded order there is nothing to compare.
-    assert_eq!(compared(""), [""; 0]);
+    assert_eq!(compared(""), [[""; 0], [""; 0]]);
 }
 
 #[test]

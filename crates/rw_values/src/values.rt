@@ -5,7 +5,7 @@ ghost use Rattle.rw_law.specs.declared.limits.TheConstants.{MOST_WEIGHT};
 ghost use Rattle.rw_values.specs.Stored.{Awaits, CanBeNext, HasRoom, IsAwaited, age, all_given, empty_store, given, given_of, is_last, kept_at, one_less};
 ghost use Rattle.rw_values.specs.Stored.{overwritten, receivers_of, unread_of, value_of, with_left, with_received, with_value};
 
-use crate::ring::cell_of;
+use crate::ring::{cell_of, next_cell};
 use rw_law::{MOST_WEIGHT, NoMemory};
 use rw_ring::MOST_CAPACITY;
 use std::alloc::Global;
@@ -104,7 +104,7 @@ impl<V: Drop> Values<V> {
             return None;
         }
         let cell = self.first;
-        self.first = cell_of(cell, self.capacity, 1);
+        self.first = next_cell(cell, self.capacity);
         let kept = &mut self.cells[cell];
         kept.receivers = receivers;
         mem::replace(&mut kept.value, value)

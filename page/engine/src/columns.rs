@@ -5,6 +5,7 @@ use crate::part::{NONE, Part, word};
 use crate::run::journal::{Run, RunEntry};
 use crate::run::operation::{Kind, Operation};
 use crate::run::reply::Reply;
+use crate::shim::memchr::memchr;
 
 /// The mark of a call in the picture, by its reply, and in one case by its word. The page has a
 /// name for each number (`run/marks.js`).
@@ -27,9 +28,9 @@ fn mark_of(word: Operation, reply: Reply) -> u8 {
     }
 }
 
-/// Returns the columns of the entries: actors, channels, handles, marks, and where the line of each
-/// begins in the journal text ([`starts_of`]). Then follow the handles: how many each channel has,
-/// and what each is.
+/// Returns the columns of the entries: actors, channels, handles, marks, and where lines begin in
+/// the journal text ([`starts_of`]). Then follow the handles: how many each channel has, and what
+/// each is.
 pub(crate) fn of(run: &Run, starts: Vec<u32>) -> Vec<Part> {
     let len = run.len() as usize + 1;
     let mut actors = vec![0; len];
@@ -50,7 +51,7 @@ pub(crate) fn of(run: &Run, starts: Vec<u32>) -> Vec<Part> {
     vec![
         actors.into(),
         channels.into(),
-        handles.into(),
+        Part::of_small(handles),
         marks.into(),
         starts.into(),
         counts.into(),
@@ -58,19 +59,21 @@ pub(crate) fn of(run: &Run, starts: Vec<u32>) -> Vec<Part> {
     ]
 }
 
-/// Returns where the line of each entry begins in a journal text, by its number, and where the next
-/// one would. Before the entries are the line of the version, a head for each channel, and the line
+/// Of how many entries one has its line's start told. The page looks for the others' from there on
+/// (`run/run.js`): they would take four bytes a call.
+const LINES: usize = 16;
+
+/// Returns where the lines of the first entry and of each sixteenth after it begin in a journal
+/// text. Before the entries are the line of the version, a head for each channel, and the line
 /// `steps`.
 pub(crate) fn starts_of(journal: &[u8], heads: usize, count: u64) -> Vec<u32> {
-    let count = count as usize;
-    let ends = (1..)
-        .zip(journal)
-        .filter(|(_, byte)| **byte == b'\n')
-        .map(|(end, _)| end);
-    let mut starts = Vec::with_capacity(count + 2);
-    starts.push(0);
-    starts.extend(ends.skip(heads + 1).take(count + 1));
-    starts
+    let mut at = 0;
+    let ends = std::iter::from_fn(|| {
+        at += memchr(b'\n', &journal[at..])? + 1;
+        Some(at as u32)
+    });
+    let starts = ends.skip(heads + 1).take(count as usize);
+    starts.step_by(LINES).collect()
 }
 
 /// A handle: what it is, from which place to which it lives, who used it last, or made it, and

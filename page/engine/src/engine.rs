@@ -199,7 +199,7 @@ impl Engine {
         })
     }
 
-    /// The places of all calls that have a text, as these names have it that calls are written.
+    /// The calls that have a text, as [`hits`] has them. These names say how calls are written.
     pub(crate) fn search(&mut self, names: &[u8], wanted: &Wanted) -> Answer {
         let names = names_of(names)?;
         self.on_run(|run, _, _| Ok(vec![hits(run, &names, wanted).into()]))

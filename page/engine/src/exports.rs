@@ -7,14 +7,14 @@
 
 use crate::engine::{self, Answer, Engine};
 use crate::part::Part;
-use crate::search::Wanted;
+use crate::search::{Numbers, Wanted};
 use crate::source::rw_findings::Stretches;
 use std::cell::RefCell;
 
 #[derive(Default)]
 struct Module {
     engine: Engine,
-    /// The text that is opened next.
+    /// The text of the journal or of the names that is opened or taken next.
     text: Vec<u8>,
     inputs: Vec<Vec<u8>>,
     parts: Vec<Part>,
@@ -41,21 +41,29 @@ impl Inputs {
     }
 
     fn longs(&mut self) -> Vec<u64> {
-        self.bytes()
-            .chunks_exact(8)
-            .map(|it| u64::from_le_bytes(it.try_into().expect("eight bytes")))
-            .collect()
+        self.bytes().chunks_exact(8).map(number).collect()
     }
 
-    /// Lists of numbers one after the other, and the index past each.
-    fn lists(&mut self) -> Vec<Vec<u64>> {
-        let (numbers, ends) = (self.longs(), self.words());
+    /// Sorted lists of numbers one after the other, and the index past each. The numbers have 32
+    /// bits, or all of them 64.
+    fn numbers(&mut self) -> Vec<Numbers> {
+        let (bytes, ends) = (self.bytes(), self.words());
+        let count = ends.last().map_or(0, |end| *end as usize);
+        let width = bytes.len().checked_div(count).unwrap_or(0);
         let starts = [0].into_iter().chain(ends.iter().copied());
         starts
             .zip(&ends)
-            .map(|(start, end)| numbers[start as usize..*end as usize].to_vec())
+            .map(|(start, end)| &bytes[start as usize * width..*end as usize * width])
+            .map(|list| list.chunks_exact(width.max(1)).map(number).collect())
+            .map(Numbers::of)
             .collect()
     }
+}
+
+/// A number of up to 64 bits, as little endian bytes.
+fn number(bytes: &[u8]) -> u64 {
+    let bytes = bytes.iter().rev();
+    bytes.fold(0, |number, byte| number << 8 | u64::from(*byte))
 }
 
 /// Calls the engine with the inputs that there are.
@@ -80,15 +88,26 @@ impl Module {
     }
 }
 
-/// [`Engine::open`]: the text ([`text`]).
-#[unsafe(no_mangle)]
-pub extern "C" fn open() -> u32 {
+/// Calls the engine with the text that there is.
+fn pass(take: impl FnOnce(&mut Engine, Vec<u8>) -> Answer) -> u32 {
     MODULE.with_borrow_mut(|module| {
         module.parts = vec![];
         let text = std::mem::take(&mut module.text);
-        let answer = module.engine.open(text);
+        let answer = take(&mut module.engine, text);
         module.keep(answer)
     })
+}
+
+/// [`Engine::open`]: the text ([`text`]).
+#[unsafe(no_mangle)]
+pub extern "C" fn open() -> u32 {
+    pass(Engine::open)
+}
+
+/// [`Engine::name`]: the text of a file of names ([`text`]).
+#[unsafe(no_mangle)]
+pub extern "C" fn name() -> u32 {
+    pass(|engine, text| engine.name(&text))
 }
 
 /// Makes room, keeps it, and returns its address, or 0 if there is no memory for it.
@@ -109,8 +128,8 @@ pub extern "C" fn input(len: usize) -> usize {
     make_room(len, |module, room| module.inputs.push(room))
 }
 
-/// The same for the text that is opened next. It comes in pieces, and other calls may be made
-/// between them.
+/// The same for the text that is opened or taken next. It comes in pieces, and other calls may be
+/// made between them.
 #[unsafe(no_mangle)]
 pub extern "C" fn text(len: usize) -> usize {
     MODULE.with_borrow_mut(|module| module.text = vec![]);
@@ -165,8 +184,6 @@ macro_rules! exports {
 }
 
 exports! {
-    /// [`Engine::name`]: the text of a file of names.
-    name = |engine, mut it| engine.name(&it.bytes());
     /// [`Engine::states`]: places of 64 bits.
     states = |engine, mut it| engine.states(&it.longs());
     /// [`Engine::ask`]: commands.
@@ -193,8 +210,8 @@ exports! {
         actors: it.bytes(),
         channels: it.bytes(),
         located: it.bytes(),
-        handles: it.lists(),
-        values: it.lists(),
+        handles: it.numbers(),
+        values: it.numbers(),
     });
     /// [`engine::debug`]: a journal text, and commands.
     debug = |_, mut it| engine::debug(&it.bytes(), &it.bytes());

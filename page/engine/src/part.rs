@@ -4,6 +4,7 @@
 #[derive(Debug)]
 pub enum Part {
     Bytes(Vec<u8>),
+    Halves(Vec<u16>),
     Words(Vec<u32>),
 }
 
@@ -15,6 +16,7 @@ impl Part {
     pub(crate) fn address(&self) -> *const u8 {
         match self {
             Part::Bytes(list) => list.as_ptr(),
+            Part::Halves(list) => list.as_ptr().cast(),
             Part::Words(list) => list.as_ptr().cast(),
         }
     }
@@ -23,6 +25,7 @@ impl Part {
     pub(crate) fn len(&self) -> usize {
         match self {
             Part::Bytes(list) => list.len(),
+            Part::Halves(list) => list.len(),
             Part::Words(list) => list.len(),
         }
     }
@@ -31,7 +34,17 @@ impl Part {
     pub(crate) fn width(&self) -> usize {
         match self {
             Part::Bytes(_) => 1,
+            Part::Halves(_) => 2,
             Part::Words(_) => 4,
+        }
+    }
+
+    /// A list of numbers that are mostly small, in two bytes each where all of them are.
+    pub(crate) fn of_small(list: Vec<u32>) -> Part {
+        let halves = list.iter().map(|number| u16::try_from(*number));
+        match halves.collect() {
+            Ok(halves) => Part::Halves(halves),
+            Err(_) => Part::Words(list),
         }
     }
 }

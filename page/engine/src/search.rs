@@ -1,7 +1,11 @@
 //! Searches the calls of a run for a text. What has it of the names, as the page shows them, the
 //! page says; whether a call or its reply has it is found here, in the words of the journal.
 
+mod digits;
+mod numbers;
 mod shapes;
+
+pub(crate) use self::numbers::Numbers;
 
 use self::shapes::Shapes;
 use crate::run::journal::{Run, RunEntry};
@@ -24,43 +28,76 @@ pub(crate) struct Wanted {
     pub(crate) channels: Vec<u8>,
     /// The calls whose places in the sources have it, by their own places. It may be empty.
     pub(crate) located: Vec<u8>,
-    /// By channel, the numbers of the handles, sorted.
-    pub(crate) handles: Vec<Vec<u64>>,
-    /// By channel, the numbers of the values whose texts have it, sorted.
-    pub(crate) values: Vec<Vec<u64>>,
+    /// By channel, the numbers of the handles.
+    pub(crate) handles: Vec<Numbers>,
+    /// By channel, the numbers of the values whose texts have it.
+    pub(crate) values: Vec<Numbers>,
 }
 
-/// Returns the places of all calls behind the lead that have the text.
+impl Wanted {
+    /// Whether an actor, a channel or a handle has it.
+    fn is_of_callers(&self) -> bool {
+        [&self.actors, &self.channels]
+            .iter()
+            .any(|it| it.contains(&1))
+            || self.handles.iter().any(|it| !it.is_empty())
+    }
+}
+
+/// How many calls are searched at once. A browser makes a function faster once it was called often,
+/// and not while it runs.
+const AT_ONCE: usize = 4096;
+
+/// Returns a bit for each place, 32 in a word, which is set where a call behind the lead has the
+/// text.
 pub(crate) fn hits(run: &Run, names: &Sidecar, wanted: &Wanted) -> Vec<u32> {
     let mut search = Search {
         names,
+        lead: names.lead(),
         wanted,
+        is_of_callers: wanted.is_of_callers(),
+        is_of_values: wanted.values.iter().any(|it| !it.is_empty()),
+        is_retold: !names.matching.waited.is_empty(),
         shapes: Shapes::of(&wanted.text),
         counts: vec![0; run.specs().len()],
+        hits: vec![0; run.len() as usize / 32 + 1],
     };
-    let mut hits = vec![];
-    for (place, line) in (1..).zip(run.0.entries()) {
-        let entry = RunEntry::of(line);
-        let index = search.next_index(&entry);
-        let is_hit = is_set(&wanted.located, place as usize)
-            || search.is_named(&entry)
-            || search.is_said(line, &entry, index);
-        if is_hit && place > names.lead() {
-            hits.push(place as u32);
-        }
+    for (first, lines) in (1..).step_by(AT_ONCE).zip(run.0.entries().chunks(AT_ONCE)) {
+        search.add(first, lines);
     }
-    hits
+    search.hits
 }
 
 struct Search<'a> {
     names: &'a Sidecar,
+    /// How many calls come before a window. They are no hits.
+    lead: u64,
     wanted: &'a Wanted,
+    is_of_callers: bool,
+    is_of_values: bool,
+    /// Whether some calls are told in other words than the journal's, since they waited.
+    is_retold: bool,
     shapes: Shapes<'a>,
     /// By channel, how many entries were read.
     counts: Vec<usize>,
+    /// By place, a bit.
+    hits: Vec<u32>,
 }
 
 impl Search<'_> {
+    /// Sets the bits of these calls that have the text. The first has this place.
+    #[inline(never)]
+    fn add(&mut self, first: u32, lines: &[Line]) {
+        for (place, line) in (first..).zip(lines) {
+            let entry = RunEntry::of(line);
+            let index = self.next_index(&entry);
+            let is_hit = self.is_named(place, &entry) || self.is_said(line, &entry, index);
+            if is_hit && u64::from(place) > self.lead {
+                self.hits[place as usize / 32] |= 1 << (place % 32);
+            }
+        }
+    }
+
     /// Returns how many entries of its channel come before an entry.
     fn next_index(&mut self, entry: &RunEntry) -> usize {
         let count = &mut self.counts[entry.channel as usize];
@@ -68,25 +105,31 @@ impl Search<'_> {
         *count - 1
     }
 
-    /// Whether a name of the call has the text, or its value.
-    fn is_named(&self, entry: &RunEntry) -> bool {
-        let Wanted {
-            actors,
-            channels,
-            handles,
-            values,
-            ..
-        } = self.wanted;
+    /// Whether the call's place in the sources has the text, a name of its caller, or its value.
+    fn is_named(&self, place: u32, entry: &RunEntry) -> bool {
+        is_set(&self.wanted.located, place as usize)
+            || self.is_of_callers && self.is_by_caller(entry)
+            || self.is_of_values && self.has_value(entry)
+    }
+
+    /// Whether the name of the call's actor, channel or handle has the text.
+    fn is_by_caller(&self, entry: &RunEntry) -> bool {
         let channel = entry.channel as usize;
-        is_set(actors, entry.actor as usize)
-            || is_set(channels, channel)
-            || has(handles, channel, entry.handle.into())
-            || value_of(entry).is_some_and(|value| has(values, channel, value))
+        is_set(&self.wanted.actors, entry.actor as usize)
+            || is_set(&self.wanted.channels, channel)
+            || has(&self.wanted.handles, channel, entry.handle.into())
+    }
+
+    /// Whether the text of the value that a call sent or returned has it.
+    fn has_value(&self, entry: &RunEntry) -> bool {
+        let channel = entry.channel as usize;
+        value_of(entry).is_some_and(|value| has(&self.wanted.values, channel, value))
     }
 
     /// Whether the call or its reply has the text. Most lines needn't be written for that.
     fn is_said(&mut self, line: &Line, entry: &RunEntry, index: usize) -> bool {
-        let is_waited = self.names.matching.is_waited(entry.channel, index as u32);
+        let is_waited =
+            self.is_retold && self.names.matching.is_waited(entry.channel, index as u32);
         if !is_waited && self.names.window.is_none() {
             return self.shapes.have(line, entry);
         }
@@ -151,8 +194,6 @@ fn is_set(flags: &[u8], index: usize) -> bool {
     flags.get(index) == Some(&1)
 }
 
-fn has(numbers: &[Vec<u64>], channel: usize, number: u64) -> bool {
-    numbers
-        .get(channel)
-        .is_some_and(|numbers| numbers.binary_search(&number).is_ok())
+fn has(numbers: &[Numbers], channel: usize, number: u64) -> bool {
+    numbers.get(channel).is_some_and(|it| it.has(number))
 }

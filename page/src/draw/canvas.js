@@ -49,12 +49,14 @@ export function fitted(pen, text, width) {
   return cutTo(least);
 }
 
-// A place in the sources at the end of a name: the file and the line.
+// A place in the sources at the end of a name: the file and the line, and how long they are at most. The search begins anew at each letter,
+// and names may be very long.
 const PLACE = /[^/\s]+:\d+$/;
+const LONGEST_PLACE = 300;
 
 // Returns a name, cut if it is wider than this. What it has at its end of a place is kept, since names of places differ there.
 export function fittedName(pen, name, width) {
-  const [place] = PLACE.exec(name) ?? [];
+  const [place] = PLACE.exec(name.slice(-LONGEST_PLACE)) ?? [];
   if (place === undefined || pen.measureText(name).width <= width) return fitted(pen, name, width);
   const room = width - pen.measureText(place).width;
   return room < pen.measureText("…").width ? fittedEnd(pen, place, width) : fitted(pen, name.slice(0, -place.length), room) + place;

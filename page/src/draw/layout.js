@@ -15,7 +15,7 @@ const RECEIVER_ROW = 37;
 export const NAME_LINE = 18;
 // What is below the line of a row: the lower half of a mark on it.
 const FOOT = 8;
-const SHARED_FOOT = 13;
+const SHARED_FOOT = 16;
 const MANY_HANDLES = 14;
 const KINDS = ["sender", "weak sender", "receiver"];
 const HEIGHTS = { sender: SENDER_ROW, "weak sender": SENDER_ROW, receiver: RECEIVER_ROW, value: VALUE_ROW, actor: ACTOR_ROW };

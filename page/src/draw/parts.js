@@ -13,7 +13,9 @@ const NO_CALLS = ["panic", "failure", "end"];
 const OF_RECEIVER = {
   loss: ({ lost, end }) => `lost ${grouped(lost ?? 0)}${end === "told" ? "" : ", never told"}`,
   unlearned: ({ changes }) => `missed ${grouped(changes ?? 0)}`,
+  unlooked: ({ changes }) => `marked ${grouped(changes ?? 0)} unseen`,
   wait: () => "waits",
+  dropped: () => "waited",
   empty: () => "found nothing",
 };
 

@@ -51,14 +51,26 @@ function drawLevels({ pen, run, frame, palette, whole }, channel, { y, bar }) {
   });
 }
 
+// Where the losses of a channel are on a strip, those that a receive returned and others, which stays the same while the strip has its width.
+const plans = new WeakMap();
+
+/** @param {Loss[]} losses the same array each time */
+function planOf(frame, losses) {
+  const key = `${frame.from} ${frame.to} ${frame.left} ${frame.right}`;
+  if (plans.get(losses)?.key === key) return plans.get(losses);
+  const told = losses.filter(({ end }) => end === "told").map(loss => stretchOf(frame, loss));
+  const untold = losses.filter(({ end }) => end !== "told").map(loss => stretchOf(frame, loss, LEAST_UNTOLD));
+  const plan = { key, told: uncovered(told), untold: uncovered(untold) };
+  plans.set(losses, plan);
+  return plan;
+}
+
 // Losses that no receive returned are drawn last and lower, so that none of the others hides them.
 function drawLosses({ pen, run, frame, palette }, channel, { y, bar }) {
   const height = Math.ceil(bar / 2);
-  const losses = run.losses.on(channel);
-  const told = losses.filter(({ end }) => end === "told").map(loss => stretchOf(frame, loss));
-  const untold = losses.filter(({ end }) => end !== "told").map(loss => stretchOf(frame, loss, LEAST_UNTOLD));
-  for (const stretch of uncovered(told)) drawStretch(pen, palette, stretch, y, height, true);
-  for (const stretch of uncovered(untold)) drawStretch(pen, palette, stretch, y + bar - height, height, false);
+  const { told, untold } = planOf(frame, run.losses.on(channel));
+  for (const stretch of told) drawStretch(pen, palette, stretch, y, height, true);
+  for (const stretch of untold) drawStretch(pen, palette, stretch, y + bar - height, height, false);
 }
 
 // How many values a channel's receivers lost, and a sign where no receive returned some.
@@ -98,14 +110,25 @@ export function drawStrip(drawing) {
   if (run.lead > 0) drawBefore(pen, palette, frame.left, 0, Math.max(frame.x(run.lead + 1) - frame.left, LEAST_BEFORE), stripHeight(run));
 }
 
-// Marks the hits of a search in the lower half, so that the place is seen above them. Those on one point are marked once.
+// Returns the first place after this one that is drawn at another point.
+function behindPoint(frame, place, point) {
+  let least = place + 1;
+  let end = frame.to + 1;
+  while (least < end) {
+    const middle = (least + end) >> 1;
+    if (Math.round(frame.middle(middle)) === point) least = middle + 1;
+    else end = middle;
+  }
+  return least;
+}
+
+// Marks the hits of a search in the lower half, so that the place is seen above them. Those on one point are marked once, and the others aren't looked at.
 function drawHits({ pen, frame, palette, height, hits }) {
   pen.fillStyle = palette.hit;
-  let last = null;
-  for (const place of hits) {
+  for (let place = hits.from(0); place !== undefined;) {
     const x = Math.round(frame.middle(place));
-    if (x !== last) pen.fillRect(x - 1, height / 2, 2, height / 2);
-    last = x;
+    pen.fillRect(x - 1, height / 2, 2, height / 2);
+    place = hits.from(behindPoint(frame, place, x));
   }
 }
 

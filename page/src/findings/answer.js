@@ -19,6 +19,9 @@ const MOST_TEXT = 300;
 // How many changes are listed that a receiver never looked at.
 const MOST_CHANGES = 3;
 
+// The kinds of facts that such changes are listed in.
+const UNLOOKED = ["unlearned", "unlooked"];
+
 // How many facts are unfolded at first, and of how many others the headings are shown.
 const MOST_UNFOLDED = 3;
 const MOST_HEADINGS = 8;
@@ -56,7 +59,7 @@ function unlookedLine(run, { channel, receiver, changes }) {
 // A fact as a heading, with its lines below it, which fold.
 function factPart(run, fact, isOpen) {
   const [head, ...lines] = fact.text;
-  const more = fact.kind === "unlearned" && !run.isBeginning ? unlookedLine(run, fact) : [];
+  const more = UNLOOKED.includes(fact.kind) && !run.isBeginning ? unlookedLine(run, fact) : [];
   return element("details", { class: "fact", "data-kind": fact.kind, ...(isOpen ? { open: "" } : {}) },
     element("summary", {}, element("h3", { class: "line" }, ...worded(head))), ...lines.map((text, index) => lineOf(run, fact, text, index + 1)), ...more);
 }

@@ -1,10 +1,11 @@
 // How the test failed, which is the head of the page: its panic or error in its own words, with the two sides of an assertion below each other. A test that
-// hangs has none: its head is which calls still wait, in the words of the report.
+// hangs has none: its head is which calls still wait, in the words of the report. Above that is that a replay is another run, and below it the race.
 
 import { byId, element, outside } from "../base/dom.js";
 import { countOf, grouped } from "../base/numbers.js";
 import { visible, visibleLines } from "../base/text.js";
-import { waitParts, withSource, worded } from "./account_text.js";
+import { plainText, waitParts, withSource, worded } from "./account_text.js";
+import { leftLines, leftParts, raceLines, raceParts } from "./order_said.js";
 import { sourceLink } from "./source_links.js";
 
 // What `assert_eq!` and `assert_ne!` of Rust's library write.
@@ -71,22 +72,33 @@ function hangParts(run) {
   return [element("h2", {}, ...name), ...waits, ...waitsLeft(account).map(text => element("p", { class: "wait" }, text))];
 }
 
+function headParts(run) {
+  const { account } = run;
+  if (account === null) return [];
+  const how = account.failed !== null ? partsOf(run, account.failed) : isHang(run) ? hangParts(run) : [];
+  return [...leftParts(account), ...how, ...raceParts(account)];
+}
+
 // Shows it, or nothing where the test neither failed nor hangs, or that isn't known.
 export function showFailure(run) {
-  const failed = run.account?.failed ?? null;
-  const parts = failed !== null ? partsOf(run, failed) : isHang(run) ? hangParts(run) : [];
+  const parts = headParts(run);
   byId("failed").hidden = parts.length === 0;
   byId("failed").replaceChildren(...parts);
 }
 
-// The same as lines of a text, without the calls that wait.
-export function failureLines(run) {
+function linesOf(run) {
   const { account, names } = run;
-  if (account === null) return [];
   if (isHang(run)) return [visible(`${names.ending.test ?? "the test"} hangs`)];
   if (account.failed === null) return [];
   const { name, message, location, text } = account.failed;
   if (!isWhole(account.failed)) return [`failed: ${visible(text)}`];
   const where = location ? ` at ${location[0]}:${location[1]}` : "";
   return [visible(`${name} failed${where}:`), ...message.split("\n").map(visible)];
+}
+
+// The same as lines of a text, without the calls that wait.
+export function failureLines(run) {
+  const { account } = run;
+  if (account === null) return [];
+  return [...leftLines(account).map(plainText), ...linesOf(run), ...raceLines(account).map(plainText)];
 }

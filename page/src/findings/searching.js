@@ -3,7 +3,7 @@
 import { byId, outside } from "../base/dom.js";
 import { during } from "../base/notice.js";
 import { countOf, grouped } from "../base/numbers.js";
-import { countUpTo } from "../run/values.js";
+import { Hits } from "../run/hits.js";
 import { hitsOfCondition, seek } from "./conditions.js";
 import { hitsOf } from "./text_search.js";
 
@@ -77,7 +77,7 @@ export class Searching {
       if (isOther()) this.counting = { text: condition, hits: hitsOfCondition(this.run, condition, isOther) };
       const hits = await this.counting.hits;
       if (hits === null) return;
-      this.shown.hits = { text: condition, ...hits };
+      this.shown.hits = { text: condition, places: Hits.of(hits.places), isAll: hits.isAll };
       this.onHits();
     }
     if (isOver()) return;
@@ -110,19 +110,19 @@ export class Searching {
     }
     const { places } = this.shown.hits;
     const here = this.placeNow();
-    const index = word === "rback" ? countUpTo(places, here - 1) - 1 : countUpTo(places, here);
+    const index = word === "rback" ? places.upTo(here - 1) - 1 : places.upTo(here);
     // Past the last one it goes on at the other end.
-    const isAround = places[index] === undefined;
+    const isAround = places.at(index) === undefined;
     const hit = !isAround ? index : word === "rback" ? places.length - 1 : 0;
     this.found = null;
     if (places.length === 0) return this.tell(true, "no call has ", outside(text));
-    this.jump(places[hit]);
+    this.jump(places.at(hit));
     this.tell(false, `hit ${grouped(hit + 1)} of ${grouped(places.length)}${isAround ? FROM[word] : ""}`);
   }
 
   // Forgets the hits of the last search.
   forget() {
-    this.shown.hits = { text: "", places: [] };
+    this.shown.hits = { text: "", places: new Hits() };
     this.counting = null;
   }
 

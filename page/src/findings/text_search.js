@@ -2,6 +2,7 @@
 // replies. All hits are found, so that they can be counted, and marked on the strip.
 
 import { visible } from "../base/text.js";
+import { Hits } from "../run/hits.js";
 import { Sought, folded } from "../run/sought.js";
 
 // Whether an actor is the test itself.
@@ -31,15 +32,15 @@ function wantedOf(run, sought) {
     actors: Uint8Array.from(actors.names, (name, actor) => Number(ofActor(name, actor))),
     channels: Uint8Array.from(channels, (_, channel) => Number(has(names.channel(channel)))),
     located: locatedIn(run, has),
-    handles: lives.map((lives, channel) => lives.filter(({ handle }) => has(names.handle(channel, handle) ?? "")).map(({ handle }) => BigInt(handle))),
+    handles: lives.map((lives, channel) => lives.filter(({ handle }) => has(names.handle(channel, handle) ?? "")).map(({ handle }) => handle)),
     values: channels.map((_, channel) => names.tables.values.numbersWith(channel, sought)),
   };
 }
 
-// Returns the places of all calls that have a text, or null where `isOver` says that nobody waits for them any more.
+// Returns the hits of a text, or null where `isOver` says that nobody waits for them any more.
 export async function hitsOf(run, text, isOver) {
   const hits = await run.search(wantedOf(run, new Sought(text)));
-  return isOver() ? null : hits;
+  return isOver() ? null : new Hits(hits);
 }
 
 // The console's conditions, with what comes after their word: a channel, a handle of it, an actor, or a number or word as it is.

@@ -79,6 +79,7 @@ function listenToAnswer(page) {
     /** @type {HTMLElement} */
     const link = target.closest("[data-place]");
     if (!link) return;
+    event.preventDefault();
     const [channel, receiver] = (link.dataset.receiver ?? "").split(" ").map(Number);
     page.walk?.lossMoves.toStep(Number(link.dataset.place), channel, receiver);
   });

@@ -32,7 +32,7 @@ export class Walk {
     this.drawing = new Latest(() => this.draw(), onFault);
     this.levelling = new Latest(() => this.drawLevels(), onFault);
     this.onFault = onFault;
-    const hands = { placeNow: () => view.place, jump: place => this.jump(() => this.go(place)), onHits: () => this.redraw() };
+    const hands = { placeNow: () => view.place, jump: place => this.jump(() => this.stand(place)), onHits: () => this.redraw() };
     this.searching = new Searching(run, this.shown, hands, onFault);
     this.isLeft = false;
     // Whether the address names no place, and the account, which has the place to begin at, is still to come.
@@ -164,18 +164,29 @@ export class Walk {
     this.render();
   }
 
-  // Goes to a place, without a step of the browser's history, and without scrolling the rows.
-  go(place) {
+  // Changes the place, which what follows shows.
+  stand(place) {
     this.shown.isAllValues = false;
     this.view.go(place);
-    this.render();
   }
 
   // The same by hand. It discards earlier searches.
-  to(place) {
+  standByHand(place) {
     this.isStarting = false;
     this.searching.stop();
-    this.go(place);
+    this.stand(place);
+  }
+
+  // Goes to a place, without a step of the browser's history, and without scrolling the rows.
+  go(place) {
+    this.stand(place);
+    this.render();
+  }
+
+  // The same by hand.
+  to(place) {
+    this.standByHand(place);
+    this.render();
   }
 
   // It ends where a window begins. Scrolls before anything is changed, since the browser lays out the page for it.
@@ -195,15 +206,15 @@ export class Walk {
     if (place > this.run.lead) this.screen.reveal(channels[place], handles[place]);
   }
 
-  // Jumps, and scrolls in where that led. Each jump is a step of the browser's history.
+  // Jumps, and scrolls in where that led, before it is shown. Each jump is a step of the browser's history.
   jump(move) {
     leaveAnswer(this);
     this.step(move);
     this.reveal();
-    this.redraw();
+    this.render();
   }
 
-  // Makes a step of the browser's history of a move.
+  // Makes a step of the browser's history of a change of the place.
   step(move) {
     const from = this.address;
     move();
@@ -211,13 +222,13 @@ export class Walk {
   }
 
   jumpTo(place) {
-    this.jump(() => this.to(place));
+    this.jump(() => this.standByHand(place));
   }
 
   toEnd() {
     this.jump(() => {
       this.view.show(this.view.lastColumn - this.view.width, this.view.width);
-      this.to(this.run.lastPlace);
+      this.standByHand(this.run.lastPlace);
     });
   }
 
@@ -282,14 +293,19 @@ export class Walk {
   }
 
   pressStrip(x) {
-    this.jump(() => this.toPointInStrip(x));
+    this.jump(() => this.standInStrip(x));
   }
 
   // Brings the place into view, with what is around it.
   toPointInStrip(x) {
+    this.standInStrip(x);
+    this.render();
+  }
+
+  standInStrip(x) {
     const place = this.screen.placeInStrip(x);
     this.view.centre(place);
-    this.to(place);
+    this.standByHand(place);
   }
 
   scroll(columns) {

@@ -33,9 +33,8 @@ export function isLong(text) {
   return text.length >= LONG;
 }
 
-// Returns what was opened of a beginning as that of a run of so many calls of which no more is known: handles that are alive at its end live on, and
-// losses that are open there are left out, since it isn't known whether they will be told.
+// Returns what was opened of a beginning as that of a run of so many calls of which no more is known: handles that are alive at its end live on.
 export function asBeginning(opened, lastPlace) {
   const lives = opened.lives.map(those => those.map(life => (life.to > opened.lastPlace ? { ...life, to: lastPlace + 1 } : life)));
-  return { ...opened, isBeginning: true, lastPlace, lives, losses: opened.losses.filter(({ end }) => end !== "open") };
+  return { ...opened, isBeginning: true, lastPlace, lives };
 }

@@ -42,6 +42,22 @@ function isFailed(value) {
   return isObject(value) && typeof value.text === "string" && Number.isSafeInteger(value.place) && isLocationOrNone(value.location);
 }
 
+function isPlaceOrNone(value) {
+  return value === undefined || value === null || Number.isSafeInteger(value);
+}
+
+function isReplay(value) {
+  return isObject(value) && typeof value.text === "string" && isPlaceOrNone(value.place);
+}
+
+function isStep(value) {
+  return isObject(value) && typeof value.text === "string" && isPlaceOrNone(value.place);
+}
+
+function isRace(value) {
+  return isObject(value) && typeof value.text === "string" && isStep(value.first) && isStep(value.then);
+}
+
 function isTask(value) {
   return isObject(value) && typeof value.text === "string";
 }
@@ -61,7 +77,8 @@ export function firstPlace(account, lead = 0) {
 export function completed(account) {
   return {
     ...account, look: Number.isSafeInteger(account.look) ? account.look : 0,
-    failed: isFailed(account.failed) ? account.failed : null, tasks: Array.isArray(account.tasks) ? account.tasks.filter(isTask) : [],
+    failed: isFailed(account.failed) ? account.failed : null, replay: isReplay(account.replay) ? account.replay : null, race: isRace(account.race) ? account.race : null,
+    tasks: Array.isArray(account.tasks) ? account.tasks.filter(isTask) : [],
   };
 }
 

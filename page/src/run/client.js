@@ -32,7 +32,7 @@ export class Client {
     this.waiting.delete(number);
     if (fault === undefined) asked.resolve(answer);
     else if (isClosed && this.opened && !asked.isAgain) this.askAgain(asked, this.opened);
-    else asked.reject(new Error(fault));
+    else asked.reject(Object.assign(new Error(fault), { isClosed }));
   }
 
   request(request, ...values) {
@@ -42,7 +42,7 @@ export class Client {
   // Requests to open a run.
   async open(bytes, places) {
     this.opened = null;
-    const opened = await this.passOn(bytes, places);
+    const opened = await this.passOn(bytes, "open", places);
     if (!opened.fault) this.opened = { bytes, names: null };
     return opened;
   }
@@ -51,14 +51,18 @@ export class Client {
   async name(bytes) {
     const { opened } = this;
     if (opened) opened.names = null;
-    await this.request("name", bytes);
+    await this.passOn(bytes, "name").catch(async fault => {
+      if (!fault.isClosed || !opened) throw fault;
+      await this.reopen(opened);
+      await this.passOn(bytes, "name");
+    });
     if (opened) opened.names = bytes;
   }
 
-  // Passes on a text, and opens it.
-  passOn(bytes, places) {
-    const open = () => this.passPieces(bytes).then(() => this.request("open", places));
-    this.passing = this.passing.then(open, open);
+  // Sends a text to the worker, and then a request that needs it. The request isn't sent again by itself, since a new worker doesn't have the text.
+  passOn(bytes, request, ...values) {
+    const pass = () => this.passPieces(bytes).then(() => this.send({ request, values, isAgain: true }));
+    this.passing = this.passing.then(pass, pass);
     return this.passing;
   }
 
@@ -78,18 +82,23 @@ export class Client {
   // Asks once more for what the engine didn't answer, since a failure of an earlier request has closed the run.
   async askAgain({ request, values, resolve, reject }, opened) {
     try {
-      this.reopening ??= this.openAgain(opened).finally(() => { this.reopening = null; });
-      await this.reopening;
-      if (this.opened !== opened) throw new Error("another run was opened");
+      await this.reopen(opened);
       resolve(await this.send({ request, values, isAgain: true }));
     } catch (fault) {
       reject(fault);
     }
   }
 
+  // Opens the run again, once for all that wait for it.
+  async reopen(opened) {
+    this.reopening ??= this.openAgain(opened).finally(() => { this.reopening = null; });
+    await this.reopening;
+    if (this.opened !== opened) throw new Error("another run was opened");
+  }
+
   async openAgain({ bytes, names }) {
-    await this.passOn(bytes, []);
-    if (names) await this.send({ request: "name", values: [names], isAgain: true });
+    await this.passOn(bytes, "open", []);
+    if (names) await this.passOn(names, "name");
   }
 
   // Sends a request, and hands over some of its buffers.

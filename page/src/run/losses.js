@@ -35,6 +35,29 @@ class Overlaps {
   }
 }
 
+const END = ["told", "dropped", "open"];
+const NUMBERS = 6;
+
+// The losses in numbers of the engine, in the order of the places where they begin. Those that are open end behind the last place.
+/** @returns {Loss[]} */
+export function lossesIn(numbers, lastPlace) {
+  return Array.from({ length: numbers.length / NUMBERS }, (_, i) => {
+    const [channel, receiver, from, lost, end, to] = numbers.subarray(NUMBERS * i, NUMBERS * (i + 1));
+    return { channel, receiver, from, lost, end: /** @type {Loss["end"]} */ (END[end]), to: END[end] === "open" ? lastPlace + 1 : to };
+  });
+}
+
+// The places behind a lead where losses begin, and where they end, each once and in their order.
+function stopsOf(all, lead) {
+  const places = new Uint32Array(2 * all.length);
+  let count = 0;
+  for (const { from, end, to } of all) {
+    if (from > lead) places[count++] = from;
+    if (end !== "open") places[count++] = to;
+  }
+  return places.subarray(0, count).sort().filter((place, i, sorted) => i === 0 || sorted[i - 1] !== place);
+}
+
 export class Losses {
   /** @param {Loss[]} all in the order of the places where they begin */
   constructor(run, all) {
@@ -43,7 +66,7 @@ export class Losses {
     this.overlaps = new Overlaps(all);
     this.byChannel = sorted(all, run.channels.length);
     this.byLives = new WeakMap();
-    this.stops = Uint32Array.from(new Set(all.flatMap(({ from, end, to }) => [...(from > run.lead ? [from] : []), ...(end === "open" ? [] : [to])]))).sort();
+    this.stops = stopsOf(all, run.lead);
     this.byReceiver = run.channels.map(() => new Map());
     this.reading = readersIn(run, all);
     // The sums of the channels, with the failure of the test that they were counted with.

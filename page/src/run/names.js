@@ -142,6 +142,9 @@ function named(table, number, otherwise) {
   return visible(lookUp(table, number) ?? otherwise);
 }
 
+// What names have for a thread without a name, which the account calls by its number alone.
+const UNNAMED_THREAD = /^ThreadId\(\d+\)$/;
+
 // A value may have a number that the browser's own would round.
 function ordinal(number) {
   return nth(BigInt(number) + 1n);
@@ -187,7 +190,8 @@ export class Names {
 
   // The same without that place.
   shortActor(number) {
-    return named(this.tables.actors, number, `actor ${number}`);
+    const name = named(this.tables.actors, number, `actor ${number}`);
+    return UNNAMED_THREAD.test(name) ? `thread ${name.slice(9, -1)}` : name;
   }
 
   channel(number) {

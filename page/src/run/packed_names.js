@@ -49,13 +49,6 @@ class Numbers {
   get whole() {
     return this.list.slice(0, this.length);
   }
-
-  // The same as numbers of 64 bits, whose lower halves come first.
-  get longs() {
-    const halves = new Uint32Array(2 * this.length);
-    for (let i = 0; i < this.length; i++) halves[2 * i] = this.list[i];
-    return new BigUint64Array(halves.buffer);
-  }
 }
 
 // Goes over the bytes of a text of JSON.
@@ -182,7 +175,7 @@ function byChannel(scanner, part) {
   return new Map([...parts].sort(([one], [other]) => one - other));
 }
 
-// The texts of one channel's values: which values have one, where each text begins, and the indexes of those that aren't plain.
+// The texts of one channel's values: which values have one, where each text begins, the indexes of those that aren't plain, and where the last one ends.
 function textsOfChannel(scanner) {
   const [numbers, starts, others] = [new Numbers(), new Numbers(), new Numbers()];
   let least = 0;
@@ -194,7 +187,7 @@ function textsOfChannel(scanner) {
     starts.push(scanner.here);
     if (!scanner.text()) others.push(numbers.length - 1);
   }
-  return { numbers: numbers.whole, starts: starts.whole, others: others.whole };
+  return { numbers: numbers.whole, starts: starts.whole, others: others.whole, end: scanner.at };
 }
 
 function placesOfCalls(scanner) {
@@ -241,17 +234,29 @@ class PackedTexts {
     return read(this.bytes, start, scanner.at);
   }
 
-  // The numbers of the values of a channel whose texts have what is looked for, in their order, as numbers of 64 bits. No text is made of a plain one.
+  // The numbers of the values of a channel whose texts have what is looked for, in their order. No text is made of a plain one.
   numbersWith(channel, sought) {
-    const { numbers, starts, others } = this.tables.get(Number(channel)) ?? { numbers: [], starts: [], others: [] };
-    const found = new Numbers();
-    let other = 0;
-    for (let i = 0; i < numbers.length; i++) {
-      const isPlain = others[other] !== i;
-      if (!isPlain) other++;
-      if (isPlain ? sought.isInPlain(this.bytes, starts[i]) : sought.isIn(this.textAt(starts[i]))) found.push(numbers[i]);
+    const table = this.tables.get(Number(channel));
+    if (table === undefined) return new Uint32Array();
+    const areFound = this.plainWith(table, sought);
+    for (const other of table.others) areFound[other] = Number(sought.isIn(this.textAt(table.starts[other])));
+    return table.numbers.filter((_, i) => areFound[i] === 1);
+  }
+
+  // Returns 1 for each plain text of a channel that has what is looked for, and 0 for all other texts. The search goes over all bytes of the channel.
+  // What it finds between two texts doesn't count.
+  plainWith({ starts, end }, sought) {
+    const areFound = new Uint8Array(starts.length);
+    const past = sought.isPlain ? end : 0;
+    let index = 0;
+    for (let from = starts[0]; from < past;) {
+      const at = sought.nextIn(this.bytes, from, past);
+      while (starts[index + 1] <= at) index++;
+      const isFound = at < past && sought.isInPlain(this.bytes, starts[index]);
+      if (isFound) areFound[index] = 1;
+      from = isFound ? starts[index + 1] ?? past : at + 1;
     }
-    return found.longs;
+    return areFound;
   }
 }
 

@@ -5,7 +5,7 @@ import { completed } from "./account.js";
 import { Actors } from "./actors.js";
 import { placeUpTo, readEntry } from "./entries.js";
 import { behindLead, lostBefore, numberOf, timeOf, windowOf } from "./lead.js";
-import { Losses } from "./losses.js";
+import { Losses, lossesIn } from "./losses.js";
 import { KINDS } from "./kinds.js";
 import { MARK_NAMES } from "./marks.js";
 import { readStates } from "./states.js";
@@ -50,6 +50,10 @@ const STATE = 1000;
 
 // Of one entry in so many the order in its channel is stored.
 const COUNTED = 1024;
+
+// Of one entry in so many the columns have where its line begins, from the first on.
+const LINES = 16;
+const LINE_END = 10;
 
 const decoder = new TextDecoder();
 
@@ -103,8 +107,9 @@ export class Run {
     this.lead = 0;
     /** @type {Set<number> | null} in a window, the actors that made calls */
     this.callers = null;
-    /** @type {Loss[]} */
-    this.allLosses = opened.losses;
+    const losses = lossesIn(opened.losses, this.lastPlace);
+    // It isn't known whether those that are open at the end of a beginning will be told.
+    this.allLosses = this.isBeginning ? losses.filter(({ end }) => end !== "open") : losses;
     this.losses = new Losses(this, this.allLosses);
     /** @type {RunState} */
     this.ending = opened.ending;
@@ -275,8 +280,10 @@ export class Run {
 
   // An entry's line, as the console writes it.
   line(number) {
-    const { starts } = this.columns;
-    return `#${number} ${decoder.decode(this.journal.subarray(starts[number], starts[number + 1] - 1))}`;
+    const { journal, columns } = this;
+    let start = columns.starts[Math.floor((number - 1) / LINES)];
+    for (let before = (number - 1) % LINES; before > 0; before--) start = journal.indexOf(LINE_END, start) + 1;
+    return `#${number} ${decoder.decode(journal.subarray(start, journal.indexOf(LINE_END, start)))}`;
   }
 
   // Returns the state at a place, if it is loaded.
@@ -326,7 +333,7 @@ export class Run {
   async findAccount() {
     const { names } = this;
     if (this.account !== null) return;
-    const made = completed(await this.askNamed("account"));
+    const made = completed(JSON.parse(await this.askNamed("account")));
     if (this.waiting) made.waiting.push({ text: `${names.actor(this.waiting.actor)} would wait in line ${this.waiting.line}: ${this.waiting.text}`, since: this.lastPlace });
     if (this.names === names) this.account = made;
   }
@@ -360,7 +367,7 @@ export class Run {
     return this.client.request(request, ...values);
   }
 
-  // Returns the places of all calls that have a text in their words, in those of their reply, or in a name.
+  // Returns a bit for each place, which is set where a call has a text in its words, in those of its reply, or in a name.
   search(wanted) {
     return this.client.request("search", { ...wanted, names: this.names.ofCalls });
   }

@@ -1,6 +1,8 @@
 // What is shown of a run, as one object: the call, what is in view, folded, filtered, chosen and searched for. All that is drawn and said follows from
 // it and from the run, by the walk's `render`. A link has it too, as far as it is more than how a run is shown at first.
 
+import { Hits } from "./hits.js";
+
 const LAG = "reply lagged";
 
 export class Shown {
@@ -24,8 +26,8 @@ export class Shown {
     this.turned = new Set();
     // What stands in the field of the search, and the hits of the last one.
     this.stop = LAG;
-    /** @type {{ text: string, places: number[] | Uint32Array, isAll?: boolean }} */
-    this.hits = { text: "", places: [] };
+    /** @type {{ text: string, places: Hits, isAll?: boolean }} */
+    this.hits = { text: "", places: new Hits() };
     // The table of receivers: whether it is unfolded, and by what it is sorted. At first, receivers that lost values and were never read by come last.
     this.table = { isOpen: false, isAtFirst: true, key: "lost", isDown: true };
     /** @type {import("../draw/other_picture.js").OtherPicture | null} the run that this one is compared with */

@@ -14,6 +14,17 @@ export function folded(text) {
   return text.toLowerCase();
 }
 
+// Returns the table of a search by Horspool's algorithm: how far the search moves on, by the byte at which the last one of the text was compared.
+function skipsOf(bytes) {
+  const skips = new Uint32Array(256).fill(bytes.length);
+  const last = bytes.length - 1;
+  for (let byte = 0; byte < skips.length; byte++) {
+    const at = bytes.lastIndexOf(FOLDED[byte], last - 1);
+    if (last > 0 && at >= 0) skips[byte] = last - at;
+  }
+  return skips;
+}
+
 export class Sought {
   constructor(text) {
     this.text = folded(visible(text));
@@ -21,6 +32,7 @@ export class Sought {
     this.pattern = new RegExp(this.text.replace(/[.*+?^${}()|[\]\\/]/g, "\\$&"), "i");
     // As a text of JSON has it.
     this.bytes = new TextEncoder().encode(this.text.replace(/["\\]/g, "\\$&"));
+    this.skips = skipsOf(this.bytes);
   }
 
   // Whether a text of a value has it.
@@ -39,5 +51,17 @@ export class Sought {
       if (same === bytes.length) return true;
     }
     return bytes.length === 0;
+  }
+
+  // Where it stands next in some bytes, whatever they are a part of, or `end`. Most of those before aren't looked at.
+  nextIn(json, from, end) {
+    const { bytes, skips } = this;
+    const last = bytes.length - 1;
+    for (let to = from + last; to < end; to += skips[json[to]]) {
+      let at = last;
+      while (at >= 0 && FOLDED[json[to - last + at]] === bytes[at]) at--;
+      if (at < 0) return to - last;
+    }
+    return end;
   }
 }

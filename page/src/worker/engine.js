@@ -1,7 +1,7 @@
 // The engine: the exports of its module (page/engine/src/exports.rs). Inputs are copied into the module's memory, and the parts of an answer out of it,
 // as typed arrays.
 
-const TYPES = { 1: Uint8Array, 4: Uint32Array };
+const TYPES = { 1: Uint8Array, 2: Uint16Array, 4: Uint32Array };
 
 const encoder = new TextEncoder();
 const decoder = new TextDecoder();
@@ -21,16 +21,17 @@ export class Engine {
     return parts;
   }
 
-  // Writes a piece of the text that is opened next, which begins there in all of it. The first makes room for all.
+  // Writes a piece of the text that is opened or taken next, which begins there in all of it. The first makes room for all.
   write(piece, at, length) {
     if (at === 0) this.room = this.exports.text(length);
     if (this.room === 0) throw new Error("no memory");
     this.copy(piece, this.room + at);
   }
 
-  // Takes the text of a file of names for the opened run, or throws what is wrong with it.
-  name(names) {
-    this.ofRun("name", names);
+  // Takes the text of a file of names for the opened run: this one, or else the one that was written in pieces. Throws what is wrong with it.
+  name(names = null) {
+    if (names !== null) this.write(names, 0, names.length);
+    this.ofRun("name");
   }
 
   // Asks something of the opened run. After a trap none is: the engine keeps no text of it.
@@ -65,7 +66,7 @@ export class Engine {
     /** @type {any} */
     this.exports = new WebAssembly.Instance(this.module).exports;
     this.isOpen = false;
-    // Where the text that is opened next is written, or 0.
+    // Where the text that is opened or taken next is written, or 0.
     this.room = 0;
   }
 

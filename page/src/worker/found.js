@@ -1,7 +1,5 @@
 // What the engine finds in the opened run, as the page holds it. Each list of numbers has a fixed number of them for each thing that is found.
 
-const END = ["told", "dropped", "open"];
-
 // Past every place.
 const NONE = 2 ** 32 - 1;
 
@@ -22,12 +20,10 @@ export function statesAt(engine, places) {
   return engine.ofRun("states", BigUint64Array.from(places, BigInt))[0];
 }
 
-// Returns the losses of the run, those that are open with the place after the last as their end.
-/** @returns {Loss[]} */
-export function lossesOf(engine, lastPlace) {
-  return each(engine.ofRun("losses")[0], 6, (channel, receiver, from, lost, end, to) => ({
-    channel, receiver, from, lost, end: /** @type {Loss["end"]} */ (END[end]), to: orNull(to) ?? lastPlace + 1,
-  }));
+// Returns the losses of the run in numbers.
+/** @returns {Uint32Array} */
+export function lossesOf(engine) {
+  return engine.ofRun("losses")[0];
 }
 
 // Returns all else that is found in the run, which has `count` channels.
@@ -91,16 +87,16 @@ export function salvagedFrom(engine, journal) {
   return head && { kept: Number(head[1]), bytes: bytes.slice(head[0].length) };
 }
 
-// Returns the places of all calls that have a text: in their words or those of their reply, or in what of the names has it.
+// Returns a bit for each place, which is set where a call has a text: in its words or those of its reply, or in what of the names has it.
 export function hitsOf(engine, { names, text, actors, channels, located, handles, values }) {
   return engine.ofRun("search", names, text, actors, channels, located, ...listed(handles), ...listed(values))[0];
 }
 
-// Lists of numbers as one, with the index past each.
+// Lists of numbers as one, with the index past each. They have 32 bits, unless one has a number that may have more.
 function listed(lists) {
   let end = 0;
   const ends = Uint32Array.from(lists.map(list => (end += list.length)));
-  const all = new BigUint64Array(end);
+  const all = lists.some(list => list instanceof BigUint64Array) ? new BigUint64Array(end) : new Uint32Array(end);
   lists.forEach((list, i) => all.set(list, ends[i] - list.length));
   return [all, ends];
 }

@@ -42,7 +42,7 @@ export function openRun(engine, text, places) {
     // The page has the text that it sent.
     journal: made.length > 0 ? made : null,
     columns: { actors, channels, handles, marks, starts, actorCount: actors.reduce((most, actor) => Math.max(most, actor), 0) + 1 },
-    losses: lossesOf(engine, lastPlace),
+    losses: lossesOf(engine),
     lives: livesOf(counts, lives),
     waitingLine: waitingLine === NONE ? null : waitingLine,
   };

@@ -23,7 +23,7 @@ pub(crate) use caller::{
 pub(crate) use explored::{is_in_task, is_over_facade, last_task, note_facade, set_last_task};
 pub(crate) use holders::Unused;
 pub(crate) use identity::Identity;
-pub(crate) use last_caller::LastCaller;
+pub(crate) use last_caller::{LastCaller, LastName};
 pub use named::{Named, named};
 pub(crate) use origin::SPAWNED_TASK;
 pub use spawned::{SpawnedTask, blocking_task, spawned_task};

@@ -85,6 +85,12 @@ impl Recording {
         Ok(Recording { all, last: None })
     }
 
+    /// Opens a channel whose calls aren't recorded.
+    pub(crate) fn open_unrecorded(spec: Spec<u64>) -> Result<Recording, OpenFault> {
+        let all = rw_recording::Recording::open_unrecorded(Global, spec)?;
+        Ok(Recording { all, last: None })
+    }
+
     /// Opens a channel that keeps its last calls: between this many and twice as many.
     pub(crate) fn open_flight(spec: Spec<u64>, chunk: usize) -> Result<Recording, OpenFault> {
         let flight = Flight::open(Global, spec, chunk)?;
@@ -174,12 +180,26 @@ impl Recording {
     /// Returns which recorded call is the first of the last `count` sends, where all calls are
     /// recorded: how many were recorded before it, and the number of its actor.
     pub(crate) fn send_before_last(&self, count: u64) -> Option<(usize, Actor)> {
-        let calls = self.all.calls().iter().enumerate().rev();
-        let mut sends =
-            calls.filter(|(_, call)| matches!(call.call.to_call(), ChanCall::B(B::Send(..))));
-        let nth = usize::try_from(count.checked_sub(1)?).ok()?;
-        let (before, call) = sends.nth(nth)?;
-        Some((before, Actor::of(call.actor as usize)))
+        let mut later = count.checked_sub(1)?;
+        for (before, call) in self.all.calls().iter().enumerate().rev() {
+            match call.call.to_call() {
+                ChanCall::B(B::Send(..)) if later > 0 => later -= 1,
+                ChanCall::B(B::Send(..)) => {
+                    return Some((before, Actor::of(call.actor as usize)));
+                }
+                _ => {}
+            }
+        }
+        None
+    }
+
+    /// Returns which actors have made the calls after the first `count`, where all calls are
+    /// recorded: a bit for each number. Also returns how many calls there are.
+    pub(crate) fn actors_after(&self, count: usize) -> (u64, usize) {
+        let calls = self.all.calls();
+        let new = calls.iter().skip(count);
+        let actors = new.fold(0, |all, call| all | Actor::of(call.actor as usize).bit());
+        (actors, calls.len())
     }
 
     /// How many calls are kept.
@@ -244,11 +264,11 @@ impl Recording {
     /// build that is optimized with debug assertions has a sixth more instructions of it.
     #[inline(never)]
     fn call_any(&mut self, caller: Caller, call: ChanCall<u64>) -> Reply {
-        Reply::of(match &mut self.last {
+        Reply::of_call::<false>(match &mut self.last {
             Some(flight) if !self.all.is_recorded() => {
-                flight.call(caller.actor.number(), caller.clock, call)
+                flight.call(caller.actor.0, caller.clock, call)
             }
-            _ => self.all.call(caller.actor.number(), caller.clock, call),
+            _ => self.all.call(caller.actor.0, caller.clock, call),
         })
     }
 
@@ -278,7 +298,7 @@ fn call_last<const OF_HANDLES: bool>(
     caller: Caller,
     call: impl FnOnce() -> ChanCall<u64>,
 ) -> Reply {
-    Reply::of_call::<OF_HANDLES>(flight.call(caller.actor.number(), caller.clock, call()))
+    Reply::of_call::<OF_HANDLES>(flight.call(caller.actor.0, caller.clock, call()))
 }
 
 /// Makes a call that isn't recorded.
@@ -288,7 +308,7 @@ fn call_unrecorded<const OF_HANDLES: bool>(
     caller: Caller,
     call: impl FnOnce() -> ChanCall<u64>,
 ) -> Reply {
-    Reply::of_call::<OF_HANDLES>(all.call(caller.actor.number(), caller.clock, call()))
+    Reply::of_call::<OF_HANDLES>(all.call(caller.actor.0, caller.clock, call()))
 }
 
 /// Goes on from a recording that hasn't ended with its last calls alone.
@@ -298,9 +318,7 @@ fn flight_of(all: &rw_recording::Recording, chunk: usize) -> Result<Flight, NoMe
 
 /// A small channel that nobody uses.
 fn nothing() -> Result<rw_recording::Recording, OpenFault> {
-    let mut nothing = rw_recording::Recording::open(Global, Spec::Watch(0))?;
-    nothing.end();
-    Ok(nothing)
+    rw_recording::Recording::open_unrecorded(Global, Spec::Watch(0))
 }
 
 /// Whether a call creates or drops a handle.
@@ -314,7 +332,7 @@ macro_rules! methods {
         $($name:ident($($arg:ident: $type:ty),*) = $side:ident $variant:ident $args:tt)*
         $(=> $like:ident)?;)*) => {
         impl Recording {
-            $($(#[cfg_attr(not(debug_assertions), inline(always))]
+            $($(#[inline(always)]
             pub(crate) fn $name(&mut self, caller: Caller, $($arg: $type),*) -> Reply {
                 const OF_HANDLES: bool = is_of_handles(Operation::$word);
                 if cfg!(debug_assertions) {

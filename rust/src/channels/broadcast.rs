@@ -71,10 +71,8 @@ pub use receiver::Receiver;
 pub use sender::Sender;
 pub use weak::WeakSender;
 
-use crate::channels::backend::OpenFault;
-use crate::channels::channel::{
-    ChannelState, CoreChannel, RecordedChannel, TypedChannel, call_site,
-};
+use crate::channels::backend::{OpenFault, Spec};
+use crate::channels::channel::{ChannelState, RecordedChannel, TypedChannel, call_site};
 use crate::channels::guarded_by::GuardedBy;
 use crate::channels::handle::ChannelHandle;
 use crate::channels::lock::lock;
@@ -123,12 +121,12 @@ fn open<T>(capacity: usize) -> (Sender<T>, Receiver<T>) {
         capacity <= MOST_CAPACITY,
         "yovanelum: a broadcast has a capacity of 65536 at most"
     );
-    let core = match CoreChannel::broadcast(capacity as u32) {
-        Ok(core) => core,
+    let spec = Spec::Broadcast(capacity as u32);
+    let recorded = match RecordedChannel::open(spec, 0, call_site()) {
+        Ok(recorded) => recorded,
         Err(OpenFault::NoMemory) => panic!("yovanelum: no memory for a channel"),
         Err(fault) => unreachable!("the capacity is 1 to 65536: {fault}"),
     };
-    let recorded = RecordedChannel::add(core, 0, call_site());
     let values = GuardedBy::new(&*lock(&recorded.state), Values::new(capacity));
     let channel = TypedChannel::shared(recorded, values, MaybeUninit::write);
     let (sender, receiver) = ChannelHandle::first_two(channel);

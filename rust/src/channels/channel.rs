@@ -1,6 +1,7 @@
 //! What both kinds of channel are made of: the core's channel, the recorder of its calls, and the
 //! values, which the core doesn't know.
 
+mod access;
 mod at_gate;
 mod call_times;
 mod chunk_size;
@@ -23,15 +24,17 @@ mod seldom;
 mod sharing_callers;
 mod state;
 mod typed;
+mod wait_list;
 mod waits;
 mod who_waits;
 
+pub(crate) use access::Access;
 pub(crate) use core_channel::{Call, CoreChannel, Send};
 pub(crate) use kept::{KeptChannel, NotedChannel};
 pub(crate) use known::{Known, KnownReceiver};
 pub(crate) use last_calls::SendMade;
 pub(crate) use locations::{CallSite, CallSites, call_site};
-pub(crate) use locked::{Access, LockedChannel};
+pub(crate) use locked::LockedChannel;
 pub(crate) use receivers::{LiveReceiver, NO_SLOT, Slot};
 pub(crate) use registry::{RegisteredChannel, all as all_channels};
 pub(crate) use state::ChannelState;
@@ -39,6 +42,7 @@ pub(crate) use typed::TypedChannel;
 pub(crate) use waits::ListedCall;
 pub(crate) use who_waits::{WaitNow, WaitState};
 
+use crate::channels::backend::{OpenFault, Recording, Spec};
 use crate::channels::channel_lock::ChannelLock;
 use crate::channels::in_place::arc_of;
 use crate::channels::lock::lock;
@@ -46,6 +50,7 @@ use crate::channels::recorder::{
     RecordedBy, Recorder, Shared, note_channel, say_that_none_replays,
 };
 use crate::channels::turns::{self, OrderedChannel};
+use chunk_size::ChunkSize;
 use registry::Registered;
 use std::sync::Arc;
 
@@ -60,17 +65,21 @@ pub struct RecordedChannel {
 }
 
 impl RecordedChannel {
-    /// Adds a channel that was opened with this many values to the current recorder. If there is
+    /// Opens a channel with this many values, and adds it to the current recorder. If there is
     /// none, or its run has no room for one more, the channel isn't recorded. Its first two handles
     /// are made here in the source.
-    pub(crate) fn add(core: CoreChannel, value_count: u64, made_at: CallSite) -> RecordedChannel {
+    pub(crate) fn open(
+        spec: Spec<u64>,
+        value_count: u64,
+        made_at: CallSite,
+    ) -> Result<RecordedChannel, OpenFault> {
         let current = Recorder::current_or_begun(made_at);
         note_channel(made_at, current.is_some());
         if current.is_none() {
             say_that_none_replays(made_at);
         }
         let recorder = current.map(|current| current.0).filter(|it| !it.is_off());
-        let (state, may_be_added) = begun(core, value_count, made_at, recorder.as_deref());
+        let (state, may_be_added) = begun(spec, value_count, made_at, recorder.as_deref())?;
         let ordered = recorder.as_ref().and_then(|recorder| {
             let explored = turns::explored().map(|run| run.turns.clone());
             let turns = explored.or_else(|| recorder.turns.clone())?;
@@ -84,39 +93,65 @@ impl RecordedChannel {
             }
             is_added
         });
-        RecordedChannel {
+        Ok(RecordedChannel {
             _registered: Registered::add(&state, recorder.as_ref()),
             recorder: RecordedBy(recorder),
             state,
             ordered: ordered.filter(|_| is_added),
-        }
+        })
+    }
+}
+
+/// Opens a channel of the core: one whose last calls are kept by chunks of this size, or of which
+/// all calls are recorded, or none.
+fn opened(
+    spec: Spec<u64>,
+    is_recorded: bool,
+    last: Option<ChunkSize>,
+) -> Result<Recording, OpenFault> {
+    match last {
+        Some(size) => match Recording::open_flight(spec, size.now()) {
+            Err(OpenFault::NoMemory) => {
+                eprintln!(
+                    "yovanelum: no memory for the last calls of a channel; it is recorded by none"
+                );
+                Recording::open_unrecorded(spec)
+            }
+            opened => opened,
+        },
+        None if is_recorded => Recording::open(spec),
+        None => Recording::open_unrecorded(spec),
     }
 }
 
 /// Returns a new channel as its recorder has it, if it has one, and else as one that isn't
-/// recorded. Also returns whether there was memory for what the recorder keeps.
+/// recorded. Also returns whether it is recorded: there is a recorder, and there was memory for
+/// what that keeps.
 fn begun(
-    core: CoreChannel,
+    spec: Spec<u64>,
     value_count: u64,
     made_at: CallSite,
     recorder: Option<&Shared>,
-) -> (Arc<ChannelLock<ChannelState>>, bool) {
+) -> Result<(Arc<ChannelLock<ChannelState>>, bool), OpenFault> {
+    let last = recorder.and_then(Shared::calls_per_channel);
+    let last = last.map(ChunkSize::new);
+    let core = opened(spec, recorder.is_some(), last)?;
     // It is shared from the beginning, since it is large and would be moved.
     let made = ChannelState::new(core, value_count, made_at);
     let mut shared = arc_of(ChannelLock::new(made));
     let state = Arc::get_mut(&mut shared).map(ChannelLock::get_mut);
     let state = state.expect("it is shared with nobody");
     state.receivers.add(1, made_at);
-    let Some(recorder) = recorder else {
-        state.end_recording();
-        state.core.leave_unnamed();
-        return (shared, false);
-    };
-    let may_be_added = recorder.begin_flight(state);
-    state.made_by = Some(recorder.maker());
-    state.store_making(made_at);
-    state.store_making(made_at);
-    (shared, may_be_added)
+    let is_recorded = state.is_recorded;
+    if let Some(recorder) = recorder {
+        if let Some(size) = last.filter(|_| is_recorded) {
+            state.fly(size, recorder.times);
+        }
+        state.made_by = Some(recorder.maker());
+        state.store_making(made_at);
+        state.store_making(made_at);
+    }
+    Ok((shared, is_recorded))
 }
 
 #[cfg(test)]

@@ -1,4 +1,5 @@
-//! The lock of a channel, which each of its calls acquires and releases.
+//! The lock of a channel, which each of its calls acquires and releases. A value that several
+//! receivers clone has one, too.
 #![allow(unsafe_code)]
 
 use super::lock::{Lockable, lock};
@@ -50,7 +51,8 @@ impl<T> ChannelLock<T> {
     /// Acquires the lock, once no other thread holds it.
     #[inline(always)]
     pub(crate) fn lock(&self) -> ChannelGuard<'_, T> {
-        if !self.acquires() {
+        // As `acquires` does.
+        if self.word.fetch_or(HELD, Ordering::Acquire) & HELD != 0 {
             self.wait();
         }
         ChannelGuard(self)

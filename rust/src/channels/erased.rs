@@ -5,8 +5,9 @@
 #[cfg(feature = "debug_values")]
 mod any_debug;
 
+use crate::run::listed::PushAll;
+use crate::run::sorting::sort_by_key;
 use std::any::{self, Any, TypeId};
-use std::collections::HashMap;
 use std::error::Error;
 use std::fmt::{self, Debug};
 use std::hash::{BuildHasher, BuildHasherDefault, DefaultHasher};
@@ -92,8 +93,8 @@ fn text_in_arc(value: &dyn Any) -> Option<&str> {
     Some(value.downcast_ref::<Arc<String>>()?)
 }
 
-/// The types whose values have texts by themselves.
-type KnownTypes = HashMap<TypeId, KnownType>;
+/// The types whose values have texts by themselves, in the order of their ids.
+type KnownTypes = Vec<(TypeId, KnownType)>;
 
 /// The rows of each of these types, of what has a value of it, and of pairs of two.
 macro_rules! rows {
@@ -137,17 +138,24 @@ fn known_types() -> KnownTypes {
         (TypeId::of::<Arc<String>>(), KnownType::Text(text_in_arc)),
     ];
     let mut known = KnownTypes::new();
-    for (id, of_type) in [&values[..], &texts].concat() {
-        known.insert(id, of_type);
-    }
+    // A text is there twice, and is read as a text.
+    known.push_all(texts);
+    known.push_all(values);
+    sort_by_key(&mut known, |(id, _)| *id);
     known
+}
+
+/// Returns how the text of a value of this type is made.
+fn known_type(id: TypeId) -> Option<KnownType> {
+    static KNOWN: OnceLock<KnownTypes> = OnceLock::new();
+    let known = KNOWN.get_or_init(known_types);
+    let (of_type, how) = known.get(known.partition_point(|(of_type, _)| *of_type < id))?;
+    (*of_type == id).then_some(*how)
 }
 
 /// Returns the text of a value, if its type is one of those that are known by themselves.
 pub(crate) fn text_of<T>(value: &T) -> Option<String> {
-    static KNOWN: OnceLock<KnownTypes> = OnceLock::new();
-    let known = KNOWN.get_or_init(known_types);
-    let text = read(value, |value| known.get(&value.type_id())?.text_of(value));
+    let text = read(value, |value| known_type(value.type_id())?.text_of(value));
     #[cfg(feature = "debug_values")]
     let text = text.or_else(|| any_debug::text_of(value));
     text

@@ -22,9 +22,9 @@ use std::task::{Context, Poll};
 pub(crate) struct ChannelHandle<T, S> {
     pub(crate) channel: Arc<TypedChannel<T, S>>,
     pub(crate) number: u32,
-    // Of a receiver, where it is in the channel's list of those that are alive.
+    // Of a receiver, where it is in the channel's list of those that are alive. It says which kind
+    // of handle this is, so that it has no more than 16 bytes.
     pub(crate) slot: Slot,
-    pub(crate) kind: Kind,
 }
 
 // A panic in user code leaves no channel half changed: none of that code runs while the channel is
@@ -49,20 +49,23 @@ impl<T, S> ChannelHandle<T, S> {
             channel,
             number: 0,
             slot: NO_SLOT,
-            kind: Kind::Sender,
         };
-        let receiver = sender.sibling(Kind::Receiver, 1, Slot::FIRST);
+        let receiver = sender.sibling(1, Slot::FIRST);
         (sender, receiver)
     }
 
-    /// Returns the handle of the same channel that has this kind and this number.
-    pub(crate) fn sibling(&self, kind: Kind, number: u32, slot: Slot) -> Self {
+    /// Returns the handle of the same channel that has this number and this slot.
+    pub(crate) fn sibling(&self, number: u32, slot: Slot) -> Self {
         ChannelHandle {
             channel: self.channel.clone(),
             number,
             slot,
-            kind,
         }
+    }
+
+    #[inline(always)]
+    pub(crate) fn kind(&self) -> Kind {
+        self.slot.kind()
     }
 
     /// Creates a handle of the same channel, by this call.
@@ -70,7 +73,7 @@ impl<T, S> ChannelHandle<T, S> {
     #[inline]
     pub(crate) fn create(&self, kind: Kind, word: Operation, call: Call) -> Self {
         let (reply, slot) = self.lock(word, call_site()).create(kind, call);
-        self.sibling(kind, reply.new_handle(), slot)
+        self.sibling(reply.new_handle(), slot)
     }
 
     pub(crate) fn same_channel(&self, other: &Self) -> bool {
@@ -86,7 +89,7 @@ impl<T, S> ChannelHandle<T, S> {
         RecordedHandle {
             channel: self.recorded(),
             number: self.number,
-            kind: self.kind,
+            kind: self.kind(),
         }
     }
 
@@ -94,7 +97,8 @@ impl<T, S> ChannelHandle<T, S> {
     /// in a replay has come.
     #[inline(always)]
     pub(crate) fn lock(&self, word: Operation, called_at: CallSite) -> LockedChannel<'_> {
-        self.lock_with(self.pass(word, called_at), called_at)
+        let channel = &self.channel.recorded;
+        channel.lock_in_turn(self.number, word, called_at)
     }
 
     /// By what most calls are made.
@@ -102,7 +106,7 @@ impl<T, S> ChannelHandle<T, S> {
     pub(crate) fn usual(&self) -> Usual<'_> {
         let channel = &self.channel.recorded;
         match (&channel.recorder.0, &channel.ordered) {
-            (None, _) => Usual::Unrecorded(Access::default()),
+            (None, _) => Usual::Unrecorded(Access::UNRECORDED),
             (Some(recorder), None) => Usual::Recorded(Access {
                 recorder: Some(recorder),
                 permit: None,
@@ -115,18 +119,7 @@ impl<T, S> ChannelHandle<T, S> {
     /// acquired.
     #[inline(always)]
     pub(crate) fn pass(&self, word: Operation, called_at: CallSite) -> Access<'_> {
-        let channel = &self.channel.recorded;
-        let Some(recorder) = &channel.recorder.0 else {
-            return Access::default();
-        };
-        let permit = match channel.ordered {
-            Some(_) => channel.pass_gate(self.number, word, called_at),
-            None => None,
-        };
-        Access {
-            recorder: Some(recorder),
-            permit,
-        }
+        self.channel.recorded.pass(self.number, word, called_at)
     }
 
     /// What a call has that needs no turn.
@@ -145,7 +138,9 @@ impl<T, S> ChannelHandle<T, S> {
         access: Access<'a>,
         called_at: CallSite,
     ) -> LockedChannel<'a> {
-        self.recorded().lock_with(access, self.number, called_at)
+        self.channel
+            .recorded
+            .lock_with(access, self.number, called_at)
     }
 
     /// Makes a call.
@@ -191,7 +186,7 @@ impl<T, S> ChannelHandle<T, S> {
     /// the compiler, so it has no location in the source.
     pub(crate) fn drop_by(&self, call: Call) {
         let mut channel = self.lock(Operation::Drop, None);
-        let (wakers, _event) = channel.drop_handle(self.kind, self.slot, call);
+        let (wakers, _event) = channel.drop_handle(self.kind(), self.slot, call);
         channel.unlock();
         wakers.wake();
     }

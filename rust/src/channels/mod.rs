@@ -16,6 +16,7 @@ pub(crate) mod handle;
 pub(crate) mod in_place;
 pub(crate) mod lock;
 mod of_version;
+pub(crate) mod oneshot;
 pub(crate) mod points;
 pub(crate) mod polled;
 pub(crate) mod recorder;

@@ -2,15 +2,14 @@
 //! broadcast keeps the values in it that several receivers clone.
 #![allow(unsafe_code)]
 
-use crate::channels::lock::lock;
-use std::sync::Mutex;
+use crate::channels::channel_lock::ChannelLock;
 use std::sync::atomic::{AtomicUsize, Ordering};
 
 /// A value that one thread at a time uses, by reference. Within its use that thread may use it
 /// again, where a `Mutex` would wait for itself.
 pub(crate) struct Reentrant<T> {
     value: T,
-    in_use: Mutex<()>,
+    in_use: ChannelLock<()>,
     // The thread that uses it, or 0.
     user: AtomicUsize,
 }
@@ -33,12 +32,13 @@ impl<T> Reentrant<T> {
     pub(crate) fn new(value: T) -> Reentrant<T> {
         Reentrant {
             value,
-            in_use: Mutex::new(()),
+            in_use: ChannelLock::new(()),
             user: AtomicUsize::new(0),
         }
     }
 
     /// Waits until no other thread uses the value, and uses it.
+    #[inline]
     pub(crate) fn with<R>(&self, user: impl FnOnce(&T) -> R) -> R {
         let this = thread_number();
         // Only this thread writes its number, so if it is read here, an outer use is going on,
@@ -46,7 +46,7 @@ impl<T> Reentrant<T> {
         if self.user.load(Ordering::Relaxed) == this {
             return user(&self.value);
         }
-        let _locked = lock(&self.in_use);
+        let _locked = self.in_use.lock();
         self.user.store(this, Ordering::Relaxed);
         let _guard = UseGuard(&self.user);
         user(&self.value)

@@ -51,17 +51,6 @@ impl Reply {
         }
     }
 
-    /// Returns how many receivers the value was sent to, or `None` if there is none.
-    #[cfg_attr(debug_assertions, inline(never))]
-    #[cfg_attr(not(debug_assertions), inline)]
-    pub(crate) fn sent(self) -> Option<u64> {
-        match self {
-            Reply::Sent(receivers) => Some(receivers),
-            Reply::NoReceivers(_) => None,
-            reply => reply.unexpected(),
-        }
-    }
-
     /// Returns the number of the value that a receive has received.
     #[cfg_attr(debug_assertions, inline(never))]
     #[cfg_attr(not(debug_assertions), inline)]
@@ -113,8 +102,9 @@ impl Reply {
         }
     }
 
+    /// Panics, since the call has no such reply.
     #[cold]
-    fn unexpected(self) -> ! {
+    pub(crate) fn unexpected(self) -> ! {
         unreachable!("{self:?}")
     }
 }

@@ -10,7 +10,7 @@ use crate::channels::handle::Kind;
 use crate::channels::lock::lock;
 use crate::channels::recorder::{Handle, Recorder};
 use crate::channels::wait::Awaited;
-use crate::run::listed::IntoList;
+use crate::run::listed::{IntoList, Keep, PushAll};
 use crate::run::sorting::sort_by_key;
 use std::panic::Location;
 use std::time::{Duration, SystemTime, UNIX_EPOCH};
@@ -134,12 +134,7 @@ impl NumberedCall {
 
     /// Adds when these calls of a channel with this state were made, at this time of the recorder's
     /// clock.
-    fn add_times<'a>(
-        calls: impl Iterator<Item = &'a mut Option<NumberedCall>>,
-        state: &mut ChannelState,
-        clock: u64,
-    ) {
-        let calls: Vec<_> = calls.flatten().listed();
+    fn add_times(calls: Vec<&mut NumberedCall>, state: &mut ChannelState, clock: u64) {
         let stamps: Vec<_> = calls.iter().map(|call| call.stamp).listed();
         for (call, wall) in calls.into_iter().zip(state.when(&stamps, clock)) {
             call.wall = wall;
@@ -255,8 +250,10 @@ impl ChannelSnapshot {
         ReceiverSnapshot::add_waits(&mut receivers, state);
         let mut sent_last = NumberedCall::new(state.sent_stamp());
         if let Some(clock) = clock {
-            let received = receivers.iter_mut().map(|(_, it)| &mut it.received);
-            NumberedCall::add_times(received.chain([&mut sent_last]), state, clock);
+            let received = receivers.iter_mut();
+            let mut calls = received.filter_map(|(_, it)| it.received.as_mut()).listed();
+            calls.push_all(&mut sent_last);
+            NumberedCall::add_times(calls, state, clock);
         }
         ChannelSnapshot {
             name: state.name_or_place(),
@@ -393,8 +390,9 @@ impl ReceiverSnapshot {
     /// Adds the calls that wait to their receivers, which are in the order of their creation, and
     /// those that were woken. Whether one waits is what the proved list says.
     fn add_waits(receivers: &mut [(u32, ReceiverSnapshot)], state: &ChannelState) {
-        let calls = state.who_waits();
-        for call in calls.filter(|call| matches!(call.wait.awaited, Awaited::Value)) {
+        let mut calls = state.who_waits();
+        calls.keep(|call| matches!(call.wait.awaited, Awaited::Value));
+        for call in &calls {
             let nth = state.core.nth(call.wait.handle);
             let index = receivers.binary_search_by_key(&nth, |(number, _)| state.core.nth(*number));
             let Ok(index) = index else {
@@ -406,7 +404,7 @@ impl ReceiverSnapshot {
                 WaitState::Woken => &mut receiver.woken,
                 WaitState::Held | WaitState::Blocks => continue,
             };
-            *noted = Some(Waits::new(&call, state.made_by.is_some()));
+            *noted = Some(Waits::new(call, state.made_by.is_some()));
         }
     }
 

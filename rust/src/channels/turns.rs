@@ -44,7 +44,7 @@ pub(crate) trait Turns: Send + Sync {
     fn follows_journal(&self) -> bool;
 
     /// Records who has made a channel under this name, or under none.
-    fn see_maker(&self, name: &Option<String>);
+    fn see_maker(&self, name: Option<&str>);
 
     /// Returns the number of the channel that this caller makes now, if its calls are ordered.
     fn channel_by(&self, maker: &Maker) -> Option<u32>;

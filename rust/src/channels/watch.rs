@@ -61,6 +61,7 @@ pub use borrowed::Ref;
 pub use receiver::Receiver;
 pub use sender::Sender;
 
+use crate::channels::backend::Spec;
 use crate::channels::channel::{
     Access, CoreChannel, LockedChannel, RecordedChannel, Slot, TypedChannel, call_site,
 };
@@ -97,10 +98,9 @@ type WatchHandle<T> = ChannelHandle<T, ValueLock<T>>;
 #[track_caller]
 pub fn channel<T>(init: T) -> (Sender<T>, Receiver<T>) {
     // The core knows each value by a number. The first one has 0.
-    let Ok(core) = CoreChannel::watch() else {
+    let Ok(recorded) = RecordedChannel::open(Spec::Watch(0), 1, call_site()) else {
         panic!("yovanelum: no memory for a channel");
     };
-    let recorded = RecordedChannel::add(core, 1, call_site());
     let channel = TypedChannel::shared(recorded, init, ValueLock::store);
     if channel.has_text_of() {
         show_first(&channel);
@@ -138,7 +138,7 @@ impl<T> WatchHandle<T> {
         if recorded.is_quiet(self.number, Operation::Borrow, method.called_at) {
             // Without a recorder it has code of its own.
             match self.unordered() {
-                Access { recorder: None, .. } => self.look(Access::default(), &method),
+                Access { recorder: None, .. } => self.look(Access::UNRECORDED, &method),
                 access => self.look(access, &method),
             }
         } else {
@@ -218,7 +218,7 @@ impl<T> WatchHandle<T> {
     #[cold]
     fn list_blocked(&self, method: Method) -> BlockedCall<'_> {
         let looks = &self.channel.values.looks;
-        let handle = (self.number, self.kind);
+        let handle = (self.number, self.kind());
         BlockedCall::list(self.recorded(), handle, method, |channel| {
             looks.first(channel)
         })
@@ -226,7 +226,7 @@ impl<T> WatchHandle<T> {
 
     /// Returns `true` if this is a receiver that has yet to see the value.
     fn has_changed(&self, channel: &mut LockedChannel<'_>) -> bool {
-        self.kind == Kind::Receiver && !channel.has_seen()
+        self.kind() == Kind::Receiver && !channel.has_seen()
     }
 
     /// Waits for this method until there is a value that this receiver has not seen, and marks it

@@ -88,6 +88,7 @@ impl TestRun {
             Err(error) => return not_written(&path, &error),
         };
         names.matching.has_failed = has_failed;
+        names.order.replay = recorder.left_replay(&run, &names);
         let report = match Report::on(&run, &names) {
             Ok(report) => report,
             Err(fault) => {
@@ -198,7 +199,7 @@ pub(super) fn write(
 }
 
 /// Returns the page with the run inside.
-fn page_of(path: &Path, journal: &str, names: &str) -> Result<Vec<u8>, String> {
+pub(super) fn page_of(path: &Path, journal: &str, names: &str) -> Result<Vec<u8>, String> {
     let name = path.file_name().unwrap_or_default().to_string_lossy();
     let page = fs::read(PAGE).map_err(|error| format!("{PAGE}: {error}"))?;
     page::with_run(&page, &name, journal.as_bytes(), names.as_bytes())

@@ -17,6 +17,7 @@ mod passed;
 mod process;
 mod progress;
 mod race;
+mod race_calls;
 mod reporting;
 mod search;
 mod session;

@@ -44,11 +44,10 @@ pub(super) fn folder() -> PathBuf {
 /// Returns an error if a file or the folder can't be written.
 pub(crate) fn replace(path: &Path, test: u64, files: &Files<'_>) -> io::Result<PathBuf> {
     path.parent().map_or(Ok(()), fs::create_dir_all)?;
-    let written: io::Result<Vec<_>> = files
-        .iter()
-        .map(|(extension, bytes)| Written::new(path, extension, *bytes))
-        .collect();
-    let written = written?;
+    let mut written = Vec::with_capacity(files.len());
+    for (extension, bytes) in files {
+        written.push(Written::new(path, extension, *bytes)?);
+    }
     let _locked = LockFile::acquire(path);
     let own = own::in_place_of(path, test);
     written.into_iter().try_for_each(|file| file.put(&own))?;

@@ -12,7 +12,7 @@ mod folder;
 mod options;
 mod target;
 
-use crate::run::listed::IntoList;
+use crate::run::listed::{IntoList, PushAll};
 pub use cargo::set_patch;
 pub(crate) use cargo::{CargoRun, is_patched};
 pub(crate) use target::{Target, TargetKind};
@@ -85,9 +85,9 @@ impl Program {
     /// Returns the folder that the paths of sources are relative to, of which these are some: that
     /// of the workspace, in which cargo runs the compiler.
     pub(crate) fn root_of(&self, sources: &[&Path]) -> Option<PathBuf> {
-        let of_crate = self.crate_root.as_deref().into_iter();
-        let all = of_crate.chain(sources.iter().copied());
-        let relative = all.filter(|path| path.is_relative());
+        let mut all = self.crate_root.as_deref().into_iter().listed();
+        all.push_all(sources.iter().copied());
+        let relative = all.iter().filter(|path| path.is_relative());
         let found = relative.take(SOURCES_TRIED).find_map(|source| {
             let mut above = self.package_folder.ancestors();
             above.find(|folder| folder.join(source).is_file())
@@ -127,15 +127,18 @@ fn package_name(folder: &Path) -> Option<String> {
 }
 
 fn name_in(manifest: &str) -> Option<String> {
-    let lines = manifest.lines().map(str::trim);
-    let of_package = lines.skip_while(|line| *line != "[package]").skip(1);
-    let mut of_package = of_package.take_while(|line| !line.starts_with('['));
-    let value = of_package.find_map(|line| {
-        let (key, value) = line.split_once('=')?;
-        (key.trim() == "name").then_some(value)
-    })?;
-    let mut parts = value.trim().split(['"', '\'']);
-    parts.nth(1).map(str::to_string)
+    let mut is_of_package = false;
+    for line in manifest.lines().map(str::trim) {
+        match line.split_once('=') {
+            _ if line.starts_with('[') => is_of_package = line == "[package]",
+            Some((key, value)) if is_of_package && key.trim() == "name" => {
+                let mut parts = value.split(['"', '\'']);
+                return parts.nth(1).map(str::to_string);
+            }
+            _ => {}
+        }
+    }
+    None
 }
 
 #[cfg(test)]

@@ -6,7 +6,8 @@ use crate::channels::recorder::{REPLAY, Recorder, Shared};
 use crate::channels::standard_error::say;
 use crate::channels::turns::TestEnd;
 use crate::harness::program::Program;
-use crate::run::sidecar::{TestId, test_beside};
+use crate::run::journal::Run;
+use crate::run::sidecar::{LeftReplay, Sidecar, TestId, test_beside};
 use crate::schedule::explore;
 use crate::schedule::replay::{self, Gate, Replayed};
 use std::path::{Path, PathBuf};
@@ -165,6 +166,31 @@ impl Shared {
     pub(super) fn gate(&self) -> Option<Arc<Gate>> {
         let replayed = self.turns.as_ref();
         replayed.and_then(|_| replay::gate_of_recorder(self.id))
+    }
+
+    /// Returns where the replay whose run this is left the order that it followed, if it has. Of a
+    /// window, whose calls have other stamps, it isn't known since which call.
+    pub(super) fn left_replay(&self, run: &Run, names: &Sidecar) -> Option<LeftReplay> {
+        let Some(gate) = self.gate() else {
+            return explore::left();
+        };
+        let (in_order, divergence) = gate.left()?;
+        let made_by = &names.matching.made_by;
+        let is_ordered = |channel: u32| {
+            let maker = made_by.get(&channel.into());
+            maker.is_some_and(|maker| gate.orders(maker))
+        };
+        let ordered = run
+            .entries()
+            .filter(|(_, entry)| is_ordered(entry.channel))
+            .map(|(_, entry)| entry.stamp);
+        let since = ordered.take(in_order).last().unwrap_or(0);
+        let file = gate.path().file_name().unwrap_or_default();
+        Some(LeftReplay {
+            file: file.to_string_lossy().into(),
+            since: Some(since).filter(|_| names.window.is_none()),
+            text: divergence.text,
+        })
     }
 
     /// Ends the replay of a test, if it is one, and says how it went.

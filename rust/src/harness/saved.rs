@@ -17,7 +17,7 @@ use crate::core::source::rw_law::NoMemory;
 use crate::harness::program::Program;
 use crate::run::by_text::TextMap;
 use crate::run::journal;
-use crate::run::listed::{IntoList, PushAll};
+use crate::run::listed::{IntoList, Keep, PushAll};
 use crate::run::numbered::NumberMap;
 use crate::run::sidecar::{HeldBy, Sidecar, SourceLocation, WaitingCall};
 use crate::run::sorting::sort_by_key;
@@ -83,7 +83,7 @@ impl Shared {
         let mut channels = try_lock_for(&self.channels, patience)?.clone();
         drop(try_lock_for(&self.actors, patience)?);
         let all = channels.len();
-        channels.retain(|channel| try_lock_for(channel, patience).is_some());
+        channels.keep(|channel| try_lock_for(channel, patience).is_some());
         Some(RunSoFar {
             shared: self,
             locked: (all - channels.len()) as u64,
@@ -230,14 +230,15 @@ impl RunSoFar<'_> {
         for (number, channel) in (0..).zip(&self.channels) {
             let state = lock(channel);
             // Under the channel's lock: an actor has its name before it waits.
-            let mut calls = state.who_waits().peekable();
-            if calls.peek().is_none() {
+            let calls = state.who_waits();
+            if calls.is_empty() {
                 continue;
             }
             // Under the channel's lock: an actor has its name before it waits.
             let actors = lock(&self.shared.actors).names();
             let name = |actor: Actor| actors[actor.number() as usize].clone();
-            waiting.push_all(calls.map(|call| Waiting::new(&call, number, &state, name)));
+            let calls = calls.iter();
+            waiting.push_all(calls.map(|call| Waiting::new(call, number, &state, name)));
         }
         sort_by_key(&mut waiting, Waiting::since);
         waiting
@@ -525,7 +526,9 @@ fn add_channel(names: &mut Sidecar, indexes: &mut Indexes, number: u64, channel:
     }
     let nth = |wait: &Wait| channel.core.nth(wait.handle);
     let waits = channel.who_waits();
-    let waits = waits.map(|call| indexes.waiting(&call, number, nth(&call.wait)));
+    let waits = waits
+        .iter()
+        .map(|call| indexes.waiting(call, number, nth(&call.wait)));
     names.waiting.push_all(waits);
     let dropped = seldom.dropped_waits.iter().map(|dropped| WaitingCall {
         until: Some(dropped.until),

@@ -13,7 +13,7 @@ use crate::channels::recorder::{
 };
 use crate::harness::program::{Program, is_patched};
 use crate::run::by_text::TextMap;
-use crate::run::listed::IntoList;
+use crate::run::listed::{IntoList, Keep};
 use crate::run::numbered::NumberMap;
 use crate::run::sidecar::{Returned, Sidecar, SourceLocation, TestId};
 use std::backtrace::Backtrace;
@@ -147,7 +147,7 @@ impl TestRun {
         actors::forget_last_recorder();
         note_name(recorder.id, name);
         let mut alive = lock(&ALIVE);
-        alive.retain(|run| run.strong_count() > 0);
+        alive.keep(|run| run.strong_count() > 0);
         alive.push(Arc::downgrade(&run));
         run
     }

@@ -5,35 +5,30 @@ use super::for_test::{ForTest, SaveOnPanic};
 use super::saved::Saved;
 use super::test_run::TestRun;
 use crate::channels::lock::lock;
+use crate::channels::oneshot::{self, Receiver, Sender};
 use crate::channels::recorder::Shared;
 use crate::run::report::Report;
 use crate::schedule::explore::WaitingTask;
 use std::io::{self, Write};
-use std::path::PathBuf;
 use std::sync::Arc;
-use std::sync::mpsc::{self, Receiver, RecvTimeoutError, Sender, TryRecvError};
 use std::thread;
 use std::time::Duration;
 
 /// How many calls that wait are listed. The others are counted.
 const LISTED: usize = 10;
 
-/// What could be sent to a watchdog, and never is. Dumps send it: for another type rustc would
-/// compile all of std's channels again.
-type Unsent = io::Result<PathBuf>;
-
 /// A thread that waits until the test has ended, or some time has passed. It ends with the test,
 /// which never waits for it.
 #[derive(Debug)]
 pub(super) struct Watchdog {
     // Nothing is sent. The drop of this says that the test has ended.
-    _is_running: Sender<Unsent>,
+    _is_running: Sender<()>,
 }
 
 impl Watchdog {
     /// Starts the thread. If there can be none, a line on standard error says so.
     fn start(test: &Arc<TestRun>, after: Duration) -> Watchdog {
-        let (is_running, ended) = mpsc::channel();
+        let (is_running, ended) = oneshot::channel();
         let name = test.name.clone();
         let watched = Watched {
             test: test.clone(),
@@ -55,16 +50,15 @@ impl Watchdog {
 struct Watched {
     test: Arc<TestRun>,
     after: Duration,
-    ended: Receiver<Unsent>,
+    ended: Receiver<()>,
 }
 
 impl Watched {
     fn wait(&self) {
-        let ended = self.ended.recv_timeout(self.after);
-        if matches!(ended, Err(RecvTimeoutError::Timeout)) {
+        if !self.ended.is_closed_within(self.after) {
             let _writing = lock(&WRITING);
             // A test that has ended since has written what there was to write.
-            let has_ended = matches!(self.ended.try_recv(), Err(TryRecvError::Disconnected));
+            let has_ended = self.ended.is_closed_within(Duration::ZERO);
             if let Some(recorder) = self.test.recorder.upgrade().filter(|_| !has_ended) {
                 let why = format!("has not ended after {:?}", self.after);
                 self.test.report_waiting(&recorder, &why, false);
@@ -231,12 +225,13 @@ mod tests {
     use super::*;
     use crate::Recorder;
     use crate::harness::test_run::name_of_thread;
+    use std::sync::mpsc;
 
     #[test]
     #[cfg_attr(target_family = "wasm", ignore = "WebAssembly has no threads")]
     fn the_thread_ends_with_the_test_and_writes_nothing() {
         let recorder = Recorder::new();
-        let (is_running, ended) = mpsc::channel();
+        let (is_running, ended) = oneshot::channel();
         let name = crate::temporary::name("ended");
         let watched = Watched {
             test: TestRun::start(&recorder.0, &name, name_of_thread()),

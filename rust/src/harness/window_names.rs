@@ -9,11 +9,10 @@ use crate::core::lists::{collected, reserved};
 use crate::core::source::rw_law::NoMemory;
 use crate::run::by_text::TextMap;
 use crate::run::clock::{Moment, wall};
-use crate::run::listed::PushAll;
+use crate::run::listed::{Keep, PushAll};
 use crate::run::numbered::{NumberMap, NumberSet};
 use crate::run::sidecar::{ChannelWindow, Sidecar, WindowNames};
 use crate::run::sorting::sort_by_key;
-use std::iter;
 use std::sync::Arc;
 
 /// What the actor of leads is called.
@@ -143,14 +142,13 @@ fn real_handles(channel: &NotedChannel, window: &Window) -> Result<Vec<Option<u3
 
 /// Returns the times of calls, in the order of their stamps.
 fn times(channels: &[NotedChannel]) -> Result<Vec<Moment>, NoMemory> {
-    let calls = channels.iter().map(|channel| &channel.calls);
-    let count = calls.clone().map(|calls| calls.moments.len() + 1).sum();
-    let noted = calls
-        .clone()
-        .flat_map(|calls| calls.moments.iter().copied());
-    let waits = calls.filter_map(|calls| calls.last_wait);
-    let mut moments = collected(count, noted.chain(waits))?;
+    let count = channels.iter().map(|it| it.calls.moments.len() + 1).sum();
+    let mut moments = reserved(count)?;
+    for channel in channels {
+        moments.extend_from_slice(&channel.calls.moments);
+    }
     // Those that were noted come first, and are what snapshots have told.
+    moments.push_all(channels.iter().filter_map(|it| it.calls.last_wait));
     sort_by_key(&mut moments, |moment| moment.stamp);
     moments.dedup_by_key(|moment| moment.stamp);
     Ok(moments)
@@ -163,7 +161,7 @@ fn raise(names: &mut Sidecar, made: &Windows) {
     for stamp in waits.chain(times) {
         *stamp = stamp.saturating_add(made.raised);
     }
-    names.times.retain(|moment| moment.stamp <= made.last);
+    names.times.keep(|moment| moment.stamp <= made.last);
     sort_by_key(&mut names.waiting, |wait| wait.since);
 }
 
@@ -252,10 +250,10 @@ impl Adding<'_> {
     /// made nowhere.
     fn add_calls(&mut self) -> Result<(), NoMemory> {
         let (number, lead) = (self.number, self.window.lead());
-        let nowhere = iter::repeat_n(None, lead as usize);
+        let mut calls = reserved((lead + self.made.calls) as usize)?;
+        calls.resize(lead as usize, None);
         let sites = self.channel.sites(self.made.calls);
-        let sites = sites.map(|site| site.map(|location| self.indexes.of(location)));
-        let calls = collected((lead + self.made.calls) as usize, nowhere.chain(sites))?;
+        calls.push_all(sites.map(|site| site.map(|location| self.indexes.of(location))));
         if !calls.is_empty() {
             self.names.calls.insert(number, calls);
         }

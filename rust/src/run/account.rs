@@ -7,6 +7,7 @@
 
 pub(crate) mod against;
 mod asked;
+mod call_order;
 mod closings;
 mod columns;
 mod fact;
@@ -19,6 +20,7 @@ mod last_change;
 mod lateness;
 mod locked;
 mod losses;
+mod marked;
 mod marking;
 mod naming;
 mod nothing_came;
@@ -42,7 +44,8 @@ mod window;
 mod windowed;
 mod woken;
 
-use crate::run::listed::IntoList;
+use crate::run::listed::{IntoList, Keep, PushAll};
+pub(crate) use call_order::{LeftSaid, RaceSaid};
 pub(crate) use fact::{Fact, FactStep, Level, Role};
 pub(crate) use failed::Failed;
 pub(crate) use lateness::PendingTask;
@@ -182,10 +185,11 @@ impl Context<'_> {
         let time = self.times.at(stamp).map(|time| time.text());
         let number = window::number_in_snapshots(self.names, stamp);
         let number = number.map(|number| format!("{number} in snapshots"));
-        let known: Vec<_> = time.into_iter().chain(number).listed();
-        let known = (!known.is_empty()).then(|| known.join(", "));
-        let said = (!said.is_empty()).then_some(said);
-        said.into_iter().chain(known).listed().join("; ")
+        let mut known = time.into_iter().listed();
+        known.push_all(number);
+        let mut all = vec![said, known.join(", ")];
+        all.keep(|text| !text.is_empty());
+        all.join("; ")
     }
 
     /// Returns the call with this number as a step, as it was called.
@@ -282,6 +286,10 @@ pub(crate) struct Account {
     channels: u64,
     /// Where the run begins in a window, what is said of that.
     pub(crate) window: Option<WindowSaid>,
+    /// That it is a replay which left the order that it followed.
+    pub(crate) left: Option<LeftSaid>,
+    /// Which two of its steps decide whether it fails.
+    pub(crate) race: Option<RaceSaid>,
     /// Why not all of the run is known.
     pub(crate) unknown: Vec<String>,
     /// How the test failed.
@@ -384,6 +392,8 @@ impl Account {
             calls: history.calls(),
             channels: run.specs().len() as u64,
             window: WindowSaid::of_run(names, run),
+            left: LeftSaid::of(run, names),
+            race: RaceSaid::of(run, names),
             nothing: nothing(&context, &unknown, &facts),
             failed: Failed::of(&context),
             unknown,

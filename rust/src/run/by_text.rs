@@ -1,6 +1,7 @@
 //! Maps and sets whose keys are texts. All of them have their order in a map of one type, which
 //! rustc compiles once, as those by numbers do (`numbered.rs`).
 
+use crate::run::listed::Keep;
 use std::collections::{BTreeMap, btree_map};
 use std::fmt;
 use std::mem;
@@ -32,8 +33,8 @@ impl<'a, V> Iterator for TextItems<'a, V> {
 impl<V> TextMap<V> {
     pub(crate) const fn new() -> TextMap<V> {
         TextMap {
-            places: BTreeMap::new(),
-            items: Vec::new(),
+            places: const { BTreeMap::new() },
+            items: const { Vec::new() },
         }
     }
 
@@ -114,7 +115,7 @@ impl<V> TextMap<V> {
     }
 
     pub(crate) fn retain(&mut self, mut is_kept: impl FnMut(&str, &V) -> bool) {
-        self.items.retain(|(text, value)| is_kept(text, value));
+        self.items.keep(|(text, value)| is_kept(text, value));
         self.places = BTreeMap::new();
         for (place, (text, _)) in self.items.iter().enumerate() {
             self.places.insert(text.clone(), place);

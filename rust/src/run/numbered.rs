@@ -79,8 +79,8 @@ impl<K, V> DoubleEndedIterator for Items<'_, K, V> {
 impl<K, V> NumberMap<K, V> {
     pub(crate) const fn new() -> NumberMap<K, V> {
         NumberMap {
-            places: BTreeMap::new(),
-            items: Vec::new(),
+            places: const { BTreeMap::new() },
+            items: const { Vec::new() },
         }
     }
 
@@ -201,7 +201,15 @@ impl<K: Numbered, V> NumberMap<K, V> {
 
     /// Keeps these items. They are looked at in any order, so no memory is needed for one.
     pub(crate) fn retain(&mut self, mut is_kept: impl FnMut(&K, &mut V) -> bool) {
-        self.items.retain_mut(|(key, value)| is_kept(key, value));
+        let mut kept = 0;
+        for place in 0..self.items.len() {
+            let (key, value) = &mut self.items[place];
+            if is_kept(key, value) {
+                self.items.swap(kept, place);
+                kept += 1;
+            }
+        }
+        self.items.truncate(kept);
         let keys = self.items.iter().map(|(key, _)| key.number());
         self.places = BTreeMap::new();
         for (place, number) in keys.enumerate() {

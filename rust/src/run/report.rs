@@ -113,7 +113,9 @@ impl Report {
         let mut lines = self.before_facts();
         for (level, fact) in self.told() {
             push_fact(&mut lines, (fact, level), colours, self.1.as_ref());
-            lines.push_all(strips.iter().flat_map(|strips| strips.below(fact)));
+            if let Some(strips) = &strips {
+                lines.push_all(strips.below(fact));
+            }
         }
         lines.push_all(self.after_facts(colours));
         lines.push_all(self.commands());
@@ -137,19 +139,26 @@ impl Report {
         account.with_levels().take(account.rest.after)
     }
 
-    /// Returns the lines that say why there is a dump, and what isn't known.
+    /// Returns the lines that say why there is a dump, that it isn't the run of its journal, what
+    /// isn't known, how it failed, and by which race.
     fn before_facts(&self) -> Vec<String> {
         let Report(account, _) = self;
-        let window = account.window.iter();
-        let window = window.map(|window| format!("yovanelum: {}", window.text));
+        let window = account.window.as_ref();
+        let mut lines = vec![];
+        lines.push_all(window.map(|window| format!("yovanelum: {}", window.text)));
         let why = account.unknown.join("; ");
-        let line = format!("yovanelum: not all is known: {why}");
-        let failed = account.failed.iter();
-        let failed = failed.map(|failed| format!("failed: {}", failed.text));
-        let window = window.chain((!why.is_empty()).then_some(line));
-        let in_snapshots = account.window.iter().flat_map(|it| &it.in_snapshots);
-        let in_snapshots = in_snapshots.map(|line| format!("yovanelum: {line}"));
-        window.chain(in_snapshots).chain(failed).listed()
+        let left = account.left.iter();
+        lines.push_all(left.map(|left| format!("yovanelum: {}", left.text)));
+        if !why.is_empty() {
+            lines.push(format!("yovanelum: not all is known: {why}"));
+        }
+        let in_snapshots = window.and_then(|window| window.in_snapshots.as_ref());
+        lines.push_all(in_snapshots.map(|line| format!("yovanelum: {line}")));
+        let failed = account.failed.as_ref();
+        lines.push_all(failed.map(|failed| format!("failed: {}", failed.text)));
+        let race = account.race.iter();
+        lines.push_all(race.map(|race| format!("the race: {}", race.text)));
+        lines
     }
 
     /// Returns the lines of the other facts, of what was not found, and of the calls that wait.
@@ -161,14 +170,17 @@ impl Report {
         let waits = waits.map(|wait| wait.text.clone());
         let waits: Vec<_> = waits.listed();
         let label = colours.waiting("still waiting:");
-        let waiting = format!("{label} {}", first(&waits, SHOWN_WAITS, "; "));
-        let waiting = (!waits.is_empty()).then_some(waiting);
-        let lines = account.rest.text().into_iter();
+        let mut lines = account.rest.text().into_iter().listed();
+        lines.push_all(nothing);
+        if !waits.is_empty() {
+            lines.push(format!("{label} {}", first(&waits, SHOWN_WAITS, "; ")));
+        }
         let pending = self.pending_lines().into_iter().map(|line| {
             let task = line.strip_prefix(TASK_WAITS).unwrap_or(&line);
             format!("{}{task}", colours.waiting(TASK_WAITS))
         });
-        lines.chain(nothing).chain(waiting).chain(pending).listed()
+        lines.push_all(pending);
+        lines
     }
 
     /// Returns the lines of the tasks that wait for something else than a call of a channel, if the
@@ -220,7 +232,7 @@ fn push_fact(
                 source.line,
                 source.below + &colours.label(level, nth, &label),
             ]);
-            shown.push(step.place);
+            shown.push(step);
         }
     }
     let others = fact.text_without(&shown).into_iter().skip(1);

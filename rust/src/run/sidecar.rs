@@ -5,6 +5,7 @@
 //! account, the command and the debugger.
 
 mod beside;
+mod call_order;
 mod ending;
 mod json;
 mod matching;
@@ -15,6 +16,7 @@ mod window;
 
 pub use beside::read_whole;
 pub(crate) use beside::test_beside;
+pub(crate) use call_order::{CallOrder, LeftReplay, RaceFound, RaceStep};
 pub(crate) use ending::{Ending, Panic, Returned, TestId, Unrecorded, checksum};
 #[doc(hidden)]
 pub use json::Json;
@@ -29,7 +31,6 @@ use crate::run::clock::Moment;
 use crate::run::journal::Run;
 use crate::run::numbered::NumberMap;
 use std::fmt::{Display, Write};
-use std::iter;
 use std::panic::Location;
 
 /// The version of the format that is written. A document of version 1 has no such key.
@@ -134,6 +135,7 @@ pub(crate) struct Sidecar {
     pub(crate) dropped_waits: Vec<WaitingCall>,
     pub(crate) matching: Matching,
     pub(crate) ending: Ending,
+    pub(crate) order: CallOrder,
     /// Of a journal that has the last calls of its channels alone.
     pub(crate) window: Option<WindowNames>,
     /// Where the last sender of each channel was dropped, by 0, and its last receiver, by 1.
@@ -172,13 +174,13 @@ impl Sidecar {
             callers.retain(|before, _| *before < entries as u64);
             !callers.is_empty()
         });
-        let dropped = self.dropped_waits.iter_mut();
-        let waits = self.waiting.iter_mut().chain(&mut self.waited_at_failure);
-        let waits = waits.chain(dropped);
-        let waits = waits.flat_map(|wait| iter::once(&mut wait.since).chain(&mut wait.until));
+        fit_waits(&mut self.waiting, run);
+        fit_waits(&mut self.waited_at_failure, run);
+        fit_waits(&mut self.dropped_waits, run);
         let panics = self.ending.panics.iter_mut().map(|panic| &mut panic.since);
         let returned = self.ending.returned.iter_mut().map(|it| &mut it.since);
-        for since in waits.chain(panics).chain(returned) {
+        let left = self.order.replay.iter_mut().flat_map(|it| &mut it.since);
+        for since in panics.chain(returned).chain(left) {
             *since = run.last_stamp(*since);
         }
         self.ending.journal = Some(checksum(journal.as_bytes()));
@@ -207,22 +209,25 @@ impl Sidecar {
             (None, None) => VERSION,
         };
         let _ = write!(out, "{{\n  \"version\": {version}");
-        push_member(out, "actors", |out| push_texts(out, &self.actors));
-        push_member(out, "channels", |out| push_texts(out, &self.channels));
-        push_member(out, "values", |out| {
-            push_object(out, &self.values, push_texts)
-        });
+        push_key(out, "actors");
+        push_texts(out, &self.actors);
+        push_key(out, "channels");
+        push_texts(out, &self.channels);
+        push_key(out, "values");
+        push_object(out, &self.values, push_texts);
         self.push_handles(out);
         self.push_calls(out);
         self.matching.push(out);
         self.push_drops(out);
         self.ending.push(out);
+        self.order.push(out);
         window::push(out, self.window.as_ref(), &self.times);
         if let Some(seen) = &self.tasks_seen {
             tasks_seen::push(out, seen);
         }
         if let Some(account) = &self.account {
-            push_member(out, "account", |out| push_nested(out, account));
+            push_key(out, "account");
+            push_nested(out, account);
         }
         out.push_str("\n}\n");
     }
@@ -254,42 +259,51 @@ impl Sidecar {
     }
 }
 
-/// Appends a member of the document, on a line of its own.
-fn push_member(out: &mut String, key: &str, push: impl FnOnce(&mut String)) {
+/// Gives waits stamps that the run has.
+fn fit_waits(waits: &mut [WaitingCall], run: &Run) {
+    for wait in waits {
+        wait.since = run.last_stamp(wait.since);
+        wait.until = wait.until.map(|until| run.last_stamp(until));
+    }
+}
+
+/// How an item is appended.
+type Push<V> = fn(&mut String, &V);
+
+/// Begins a member of the document, on a line of its own.
+fn push_key(out: &mut String, key: &str) {
     let _ = write!(out, ",\n  \"{key}\": ");
-    push(out);
 }
 
 /// Appends a member, if there is something.
-fn push_some<V>(out: &mut String, key: &str, item: Option<&V>, push: impl FnOnce(&mut String, &V)) {
+fn push_some<V>(out: &mut String, key: &str, item: Option<&V>, push: Push<V>) {
     if let Some(item) = item {
-        push_member(out, key, |out| push(out, item));
+        push_key(out, key);
+        push(out, item);
     }
 }
 
 /// Appends a member that is a list, unless it is empty.
-fn push_items<V>(out: &mut String, key: &str, items: &[V], push: impl Fn(&mut String, &V)) {
+fn push_items<V>(out: &mut String, key: &str, items: &[V], push: Push<V>) {
     if !items.is_empty() {
-        push_member(out, key, |out| push_list(out, items, push));
+        push_key(out, key);
+        push_list(out, items, push);
     }
 }
 
 /// Appends a member that is an object, unless it is empty.
-fn push_map<V>(
-    out: &mut String,
-    key: &str,
-    items: &NumberMap<u64, V>,
-    push: impl Fn(&mut String, &V),
-) {
+fn push_map<V>(out: &mut String, key: &str, items: &NumberMap<u64, V>, push: Push<V>) {
     if !items.is_empty() {
-        push_member(out, key, |out| push_object(out, items, push));
+        push_key(out, key);
+        push_object(out, items, push);
     }
 }
 
 /// Appends a member that is `true`, if it is so.
 fn push_flag(out: &mut String, key: &str, is_so: bool) {
     if is_so {
-        push_member(out, key, |out| out.push_str("true"));
+        push_key(out, key);
+        out.push_str("true");
     }
 }
 
@@ -376,7 +390,7 @@ fn push_texts(out: &mut String, texts: &TextsByNumber) {
 }
 
 /// Appends a JSON object whose keys are numbers.
-fn push_object<V>(out: &mut String, items: &NumberMap<u64, V>, push: impl Fn(&mut String, &V)) {
+fn push_object<V>(out: &mut String, items: &NumberMap<u64, V>, push: Push<V>) {
     out.push('{');
     for (index, (number, item)) in items.iter().enumerate() {
         let comma = if index > 0 { ", " } else { "" };
@@ -387,7 +401,7 @@ fn push_object<V>(out: &mut String, items: &NumberMap<u64, V>, push: impl Fn(&mu
 }
 
 /// Appends a JSON array.
-fn push_list<V>(out: &mut String, items: &[V], push: impl Fn(&mut String, &V)) {
+fn push_list<V>(out: &mut String, items: &[V], push: Push<V>) {
     out.push('[');
     for (index, item) in items.iter().enumerate() {
         out.push_str(if index > 0 { ", " } else { "" });

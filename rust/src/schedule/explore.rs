@@ -29,8 +29,8 @@ pub(crate) use explorer::Explorer;
 pub(crate) use order::{Order, OrderKind};
 pub(crate) use run::{
     NamedPlace, ORDER, PAUSE, POINTS, PROCESSOR, SCHEDULE, SESSION, TARGET, TestReport, begin, end,
-    follow, followed, has_points, is_of_session, is_run_of_search, is_time_offered, target_folder,
-    watch,
+    follow, followed, has_points, is_of_session, is_run_of_search, is_time_offered, left,
+    target_folder, watch,
 };
 pub(crate) use schedule::{RunEnd, Schedule, Step, Turn, WaitingTask, What};
 pub(crate) use threads::{Asked, Sleeper, ThreadId, Threads, this_thread};

@@ -11,6 +11,7 @@ mod auto_traits;
 mod broadcast;
 mod budget;
 mod cloned_wakers;
+mod created_within;
 mod event_bus;
 mod events;
 mod forgotten;

@@ -147,7 +147,7 @@ fn by_watch_receiver(
     let handle = one_of(receivers, random);
     let has_room = receivers.len() < MOST_HANDLES;
     let receiver = receivers.get_mut(&handle).unwrap();
-    match random.below(12) {
+    match random.below(14) {
         0 if has_room => {
             let made = receiver.clone();
             receivers.insert(*next, made);
@@ -185,6 +185,14 @@ fn by_watch_receiver(
                     model.told_closed(handle);
                 }
             }
+        }
+        9 => {
+            receiver.mark_unchanged();
+            model.dismissed(handle);
+        }
+        10 => {
+            receiver.mark_changed();
+            model.lookers.get_mut(&handle).unwrap().is_unmarked = true;
         }
         _ => {
             assert_eq!(*receiver.borrow_and_update(), model.changes);

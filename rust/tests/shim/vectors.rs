@@ -199,8 +199,8 @@ fn of_a_mebibyte() -> (Vec<u64>, usize) {
     (items, length)
 }
 
-/// The items of a whole block, of 64 MiB.
-const WHOLE: usize = (64 << 20) / 8;
+/// The items of a whole block, of nearly 32 MiB.
+const WHOLE: usize = ((32 << 20) - (8 << 10)) / 8;
 
 #[cfg(target_os = "linux")]
 #[test]

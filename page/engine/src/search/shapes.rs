@@ -2,11 +2,11 @@
 //! few shapes. So of each the first line alone is written, and of all others the numbers are
 //! compared.
 
+use super::digits::Digits;
 use super::{Line, parts_of};
 use crate::run::journal::RunEntry;
 use crate::run::operation::Operation;
 use crate::run::reply::Reply;
-use crate::shim::itoa::Buffer;
 use crate::source::rw_watch::WCall;
 use crate::source::rw_words::write_entry;
 use crate::source::rw_world::ChanCall;
@@ -14,14 +14,15 @@ use crate::source::rw_world::ChanCall;
 pub(super) struct Shapes<'a> {
     text: &'a [u8],
     /// The shapes that were seen, and in which ways their lines may have the text.
-    seen: Vec<(Shape, Vec<Way<'a>>)>,
+    seen: Vec<(Shape, Vec<Way>)>,
 }
 
 /// A call, whether it notifies, and its reply without its number, unless that is a word.
 type Shape = (Operation, bool, Reply);
 
-/// What the numbers of a line have to have, so that the text stands at one place in it.
-type Way<'a> = Vec<Needed<'a>>;
+/// What the numbers of a line have to have, so that the text stands at one place in it. Without any
+/// it stands there in each line.
+type Way = Vec<Needed>;
 
 /// The numbers of a line in their order: the handle, the value, and that of the reply.
 type Numbers = [u64; 3];
@@ -29,12 +30,10 @@ type Numbers = [u64; 3];
 /// Where that of the reply is among them.
 const OF_REPLY: usize = 2;
 
-/// Digits that a number has to have: at its start, at its end, as all of it, or anywhere.
-struct Needed<'a> {
+/// Digits that a number has to have.
+struct Needed {
     number: usize,
-    digits: &'a [u8],
-    is_start: bool,
-    is_end: bool,
+    digits: Digits,
 }
 
 impl<'a> Shapes<'a> {
@@ -46,6 +45,9 @@ impl<'a> Shapes<'a> {
     pub(super) fn have(&mut self, line: &Line, entry: &RunEntry) -> bool {
         let index = self.index_of(line, entry);
         let (_, ways) = &self.seen[index];
+        if ways.is_empty() {
+            return false;
+        }
         let numbers = [
             entry.handle.into(),
             entry.value.unwrap_or_default(),
@@ -66,30 +68,22 @@ impl<'a> Shapes<'a> {
             let (called, reply) = parts_of(&room[..len]);
             let mut ways = ways_in(self.text, called, 0);
             ways.extend(ways_in(self.text, reply, OF_REPLY));
+            ways.sort_by_key(Vec::len);
             self.seen.push((shape, ways));
             self.seen.len() - 1
         })
     }
 }
 
-impl Needed<'_> {
+impl Needed {
     fn is_met(&self, numbers: &Numbers) -> bool {
-        let mut room = Buffer::new();
-        let number = room.format(numbers[self.number]).as_bytes();
-        match (self.is_start, self.is_end) {
-            (true, true) => number == self.digits,
-            (true, false) => number.starts_with(self.digits),
-            (false, true) => number.ends_with(self.digits),
-            (false, false) => number
-                .windows(self.digits.len())
-                .any(|it| it == self.digits),
-        }
+        self.digits.are_in(numbers[self.number])
     }
 }
 
 /// Returns the ways in which a part of a line like this one may have the text: one for each place
 /// at which the text may begin. `first` is the index of the part's first number.
-fn ways_in<'a>(text: &'a [u8], part: &[u8], first: usize) -> Vec<Way<'a>> {
+fn ways_in(text: &[u8], part: &[u8], first: usize) -> Vec<Way> {
     let runs: Vec<&[u8]> = part
         .chunk_by(|one, next| one.is_ascii_digit() == next.is_ascii_digit())
         .collect();
@@ -111,28 +105,18 @@ fn ways_in<'a>(text: &'a [u8], part: &[u8], first: usize) -> Vec<Way<'a>> {
 }
 
 /// Returns the way in which the text may begin within a number, which the runs follow.
-fn way_from_within<'a>(text: &'a [u8], runs: &[&[u8]], number: usize) -> Option<Way<'a>> {
+fn way_from_within(text: &[u8], runs: &[&[u8]], number: usize) -> Option<Way> {
     let (digits, rest) = parted(text);
     if digits.is_empty() {
         return None;
     }
-    let needed = Needed {
-        number,
-        digits,
-        is_start: false,
-        is_end: !rest.is_empty(),
-    };
-    way_from(rest, runs, number + 1, vec![needed])
+    let digits = Digits::of(digits, false, !rest.is_empty())?;
+    way_from(rest, runs, number + 1, vec![Needed { number, digits }])
 }
 
 /// Returns the way in which the text may stand from the start of these runs on, of which the first
 /// number has this index.
-fn way_from<'a>(
-    mut text: &'a [u8],
-    runs: &[&[u8]],
-    mut number: usize,
-    mut way: Way<'a>,
-) -> Option<Way<'a>> {
+fn way_from(mut text: &[u8], runs: &[&[u8]], mut number: usize, mut way: Way) -> Option<Way> {
     for run in runs {
         if text.is_empty() {
             break;
@@ -142,12 +126,8 @@ fn way_from<'a>(
             if digits.is_empty() {
                 return None;
             }
-            way.push(Needed {
-                number,
-                digits,
-                is_start: true,
-                is_end: !rest.is_empty(),
-            });
+            let digits = Digits::of(digits, true, !rest.is_empty())?;
+            way.push(Needed { number, digits });
             number += 1;
             text = rest;
         } else {

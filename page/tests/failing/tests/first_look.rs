@@ -1,7 +1,10 @@
-//! Nine tests that fail as tests of programs do. `first_look.csv` has what went wrong in each, where and for whom, which its page has to answer without
+//! Eleven tests that fail as tests of programs do. `first_look.csv` has what went wrong in each, where and for whom, which its page has to answer without
 //! a click. A comment at the end of a line is how `first_look.py` finds the line's number.
 
 use shop::{Order, receive, start};
+use std::future::Future;
+use std::pin::pin;
+use std::task::{Context, Poll, Waker};
 use std::time::Duration;
 use yovanelum::broadcast::Receiver;
 use yovanelum::broadcast::error::TryRecvError;
@@ -17,6 +20,11 @@ fn drained<T: Clone>(events: &mut Receiver<T>) -> (Vec<T>, bool) {
             Err(_) => return (found, has_lost),
         }
     }
+}
+
+/// Polls a future once, and drops it.
+fn polled<F: Future>(future: F) -> Poll<F::Output> {
+    pin!(future).poll(&mut Context::from_waker(Waker::noop()))
 }
 
 #[test]
@@ -201,4 +209,39 @@ fn each_order_is_delivered_in_whole() {
     }
     let order = desk.try_recv(); // the desk hears of it
     assert_eq!(order.map(|it| it.id), Ok(1)); // the order is compared
+}
+
+#[test]
+fn no_limit_is_skipped() {
+    let recorder = Recorder::for_test("no_limit_is_skipped");
+    let (limits, mut reader) = watch::channel(0);
+    recorder
+        .name(&limits, "limits")
+        .name(&reader, "reader")
+        .show(&limits, |limit| format!("{limit} kB"));
+    let mut applied = Vec::new();
+    for limit in [20, 30] {
+        limits.send(limit).unwrap(); // a limit is set
+        if limit == 20 {
+            reader.mark_unchanged(); // a limit is marked
+        }
+    }
+    block_on(reader.changed()).unwrap();
+    applied.push(*reader.borrow());
+    assert_eq!(applied, [20, 30]); // the limits are compared
+}
+
+#[test]
+fn the_limit_is_told() {
+    let recorder = Recorder::for_test("the_limit_is_told");
+    let (limits, mut reader) = watch::channel(0);
+    recorder
+        .name(&limits, "limits")
+        .name(&reader, "reader")
+        .show(&limits, |limit| format!("{limit} kB"));
+    limits.send(20).unwrap(); // the only limit is set
+    let logged = *reader.borrow_and_update(); // a limit is logged
+    assert_eq!(logged, 20);
+    let is_told = polled(reader.changed()).is_ready(); // nobody tells of the limit
+    assert!(is_told, "a limit is told"); // the limit is missed
 }

@@ -3,6 +3,7 @@
 
 use crate::Program;
 use crate::json::number;
+use std::fs;
 
 /// Asserts that the race of this program is found, and is told with these parts in their order.
 fn assert_race(name: &'static str, parts: &[&str]) {
@@ -117,4 +118,16 @@ fn a_call_that_comes_before_another_one() {
     let race = "  the race: it fails where `admin` made channel 0.send (tests/programs/threads.rs:48),\n            \
         before `reader` made channel 0.mark_unchanged (:42), and passes the other way round\n";
     assert!(said.contains(race), "{said}");
+    // The names of the run have both calls by their stamps.
+    let (_, names) = said.split_once("replay: YOVANELUM_REPLAY=").unwrap();
+    let (names, _) = names.split_once(".journal").unwrap();
+    let names = fs::read_to_string(format!("{names}.names")).unwrap();
+    let (_, race) = names
+        .split_once("\n  \"race\": {\"text\": \"it fails where")
+        .unwrap();
+    let (race, _) = race.split_once('\n').unwrap();
+    let stamps = race.split("\"stamp\": ").skip(1);
+    let stamps = stamps.map(|it| it.split_once('}').unwrap().0.parse().unwrap());
+    let stamps: Vec<u64> = stamps.collect();
+    assert!(stamps.len() == 2 && stamps[0] < stamps[1], "{race}");
 }

@@ -123,10 +123,12 @@ pub(crate) fn current_task() -> Option<u64> {
 /// it up, given the current task.
 #[inline(always)]
 pub(crate) fn current(recorder: u64, find: impl FnOnce(Option<u64>) -> Actor) -> Actor {
-    match CACHED.try_with(Cell::get) {
-        Ok(cached) if cached.recorder == recorder && !are_tasks_told() => cached.actor,
-        _ => current_by_task(recorder, find),
+    if let Ok(cached) = &CACHED.try_with(Cell::get) {
+        if cached.recorder == recorder && !ARE_TASKS_TOLD.load(Ordering::Acquire) {
+            return cached.actor;
+        }
     }
+    current_by_task(recorder, find)
 }
 
 /// Whether the last recorded call of this thread, or of the future that it polls, was one for the

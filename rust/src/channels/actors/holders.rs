@@ -1,6 +1,7 @@
 //! Who has an actor's number: threads and named futures, as long as they are alive.
 
 use super::caller::future;
+use crate::run::listed::Keep;
 use crate::run::numbered::NumberSet;
 use std::sync::{Arc, Weak};
 
@@ -95,7 +96,7 @@ impl Holders {
         if self.all.len() >= self.full_at {
             let mut seen = NumberSet::new();
             self.all
-                .retain(|holder| holder.is_alive() && seen.insert(holder.address()));
+                .keep(|holder| holder.is_alive() && seen.insert(holder.address()));
             self.full_at = 2 * self.all.len() + 4;
         }
         self.all.push(holder);

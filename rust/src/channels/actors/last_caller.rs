@@ -1,7 +1,11 @@
-//! Who has sent last on a channel, and where.
+//! Who has sent last on a channel, and where, and who has made the last channel of a recorder.
 
-use super::caller::{CALLER, CallerNumber, are_tasks_told, write_caller};
+use super::caller::{
+    ARE_TASKS_TOLD, CALLER, CallerNumber, are_tasks_told, name_of_caller, own_number, write_caller,
+};
 use crate::channels::channel::CallSite;
+use std::sync::Arc;
+use std::sync::atomic::Ordering;
 
 /// Who has made the last of some calls, and where. If the next one is by the same caller, its name
 /// isn't copied again.
@@ -29,7 +33,7 @@ impl LastCaller {
     #[inline(always)]
     pub(crate) fn note(&mut self, called_at: CallSite) {
         self.called_at = called_at;
-        if CALLER.get().0 != self.number.0 || are_tasks_told() {
+        if CALLER.get().0 != self.number.0 || ARE_TASKS_TOLD.load(Ordering::Acquire) {
             self.note_other();
         }
     }
@@ -48,5 +52,36 @@ impl LastCaller {
     /// Returns where the call was made, if there was one.
     pub(crate) fn called_at(&self) -> CallSite {
         self.called_at
+    }
+}
+
+/// The name of the last of some callers. If the next one is the same, its name isn't made again.
+pub(crate) struct LastName {
+    number: CallerNumber,
+    name: Option<Arc<str>>,
+}
+
+impl Default for LastName {
+    fn default() -> LastName {
+        LastName {
+            number: CallerNumber::NOBODY,
+            name: None,
+        }
+    }
+}
+
+impl LastName {
+    /// Returns the name of the current caller, as [`name_of_caller`] does.
+    pub(crate) fn of_caller(&mut self) -> Option<Arc<str>> {
+        if CALLER.get() != self.number || are_tasks_told() {
+            // The tasks of one thread have its number.
+            self.number = if are_tasks_told() {
+                CallerNumber::NOBODY
+            } else {
+                own_number()
+            };
+            self.name = name_of_caller().map(Into::into);
+        }
+        self.name.clone()
     }
 }

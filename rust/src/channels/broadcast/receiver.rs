@@ -9,12 +9,14 @@ use crate::channels::events::Event;
 use crate::channels::handle::{Kind, Usual};
 use crate::channels::of_version::only_if_tokio_has;
 use crate::channels::recorder::{Handle, RecordedHandle, TextOf};
+use crate::channels::reentrant::Reentrant;
 use crate::channels::wait::{Method, Pending, WaitFor};
 use crate::channels::wakers::WakeAtEnd;
 use crate::run::operation::Operation;
 use crate::run::reply::Reply;
 use std::fmt;
 use std::future::{Future, poll_fn};
+use std::sync::Arc;
 use std::task::{Context, Poll};
 
 /// The receiving half of a broadcast channel.
@@ -222,11 +224,16 @@ impl<T> Receiver<T> {
         T: Clone,
     {
         let values = self.handle.channel.values.borrow_mut(&mut channel.state);
-        let value = values.receive(number);
-        channel.unlock_after(has_wait, self.handle.slot);
-        match value {
-            Value::Own(value) => value.clone(),
-            Value::Shared(value) => value.with(T::clone),
+        // Each is unlocked and cloned as what it is. An enum would be stored in memory for it.
+        match values.receive(number) {
+            Value::Own(value) => {
+                channel.unlock_after(has_wait, self.handle.slot);
+                value.clone()
+            }
+            Value::Shared(value) => {
+                channel.unlock_after(has_wait, self.handle.slot);
+                clone_shared(value)
+            }
         }
     }
 
@@ -454,6 +461,12 @@ impl<T: Clone> Receiver<T> {
         only_if_tokio_has!("broadcast::Receiver::blocking_recv");
         block_on(self.recv_by(Method::called("blocking_recv")))
     }
+}
+
+/// Returns a clone of a value that several receivers share.
+#[inline(never)]
+fn clone_shared<T: Clone>(value: Arc<Reentrant<T>>) -> T {
+    value.with(T::clone)
 }
 
 /// What a receive returns while the channel is locked, beside the value. The event is dropped once

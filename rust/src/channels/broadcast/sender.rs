@@ -158,8 +158,10 @@ impl<T> Sender<T> {
         text: Option<String>,
     ) -> Result<usize, SendError<T>> {
         let (number, reply) = channel.send(text, CoreChannel::broadcast_send);
-        let Some(receivers) = reply.sent() else {
-            return Err(SendError(value));
+        let receivers = match reply {
+            Reply::Sent(receivers) => receivers,
+            Reply::NoReceivers(_) => return Err(SendError(value)),
+            reply => reply.unexpected(),
         };
         if Values::<T>::ARE_LARGE {
             self.store_large(channel, (number, receivers), value, reply);

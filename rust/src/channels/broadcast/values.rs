@@ -138,10 +138,10 @@ impl<T> Values<T> {
     /// Removes a dropped receiver from the counts of its unread values. Returns the values that no
     /// receiver has yet to receive.
     #[inline]
-    pub(super) fn drop_receiver(&mut self, unread: u64) -> Unwanted<T> {
+    pub(super) fn drop_receiver(&mut self, unread: u64) -> Option<Unwanted<T>> {
         match unread {
-            0 => Unwanted::default(),
-            _ => self.remove_unread(unread),
+            0 => None,
+            _ => Some(self.remove_unread(unread)),
         }
     }
 
@@ -230,8 +230,8 @@ mod tests {
         assert!(values.has_unread());
         assert_eq!(alive(&kept[1]), 1, "the other has yet to receive it");
         assert_eq!(
-            values.drop_receiver(2).small.len(),
-            1,
+            values.drop_receiver(2).map(|it| it.small.len()),
+            Some(1),
             "the value 1, which the other has"
         );
         assert_eq!(kept.each_ref().map(alive), [0, 0, 1]);

@@ -63,7 +63,7 @@ impl<T> WeakSender<T> {
             .create(Kind::Sender, CoreChannel::broadcast_upgrade);
         let number = reply.upgraded()?;
         Some(Sender {
-            handle: self.handle.sibling(Kind::Sender, number, slot),
+            handle: self.handle.sibling(number, slot),
         })
     }
 

@@ -36,7 +36,7 @@ impl ChannelState {
     /// at that time. Where nobody calls anything later, it is close to the last call's.
     pub(super) fn time_of_last_wait(&self) -> Option<Moment> {
         let last_calls = self.last_calls.as_ref()?;
-        let (_, wait) = self.waits.in_order().last()?;
+        let (_, wait) = self.waits.in_order().pop()?;
         last_calls.clock().moment_at(wait.since, wait.began?)
     }
 }

@@ -21,7 +21,7 @@ mod tests;
 
 use super::machine::{MOST_HANDLES, Machine, made};
 use super::numbers::{Numbers, Place};
-use crate::channels::backend::{Caller, OpenFault, Recording, Spec};
+use crate::channels::backend::{Caller, Recording, Spec};
 use crate::channels::handle::Kind;
 use crate::core::shim::Vec as CoreVec;
 use crate::core::source::rw_law::NoMemory;
@@ -49,32 +49,21 @@ pub(crate) type Call = fn(&mut CoreChannel, Caller, u32) -> Reply;
 pub(crate) type Send = fn(&mut CoreChannel, Caller, u32, u64) -> Reply;
 
 impl CoreChannel {
-    /// Opens a broadcast with sender 0 and receiver 1.
-    pub(crate) fn broadcast(capacity: u32) -> Result<CoreChannel, OpenFault> {
-        CoreChannel::open(Spec::Broadcast(capacity), MOST_HANDLES)
+    /// Wraps a machine that was opened with sender 0 and receiver 1. No call was made yet.
+    #[inline]
+    pub(crate) fn new(core: Recording) -> CoreChannel {
+        CoreChannel::of_most(core, MOST_HANDLES)
     }
 
-    /// Opens a watch with sender 0 and receiver 1. Its value has the number 0.
-    pub(crate) fn watch() -> Result<CoreChannel, OpenFault> {
-        CoreChannel::open(Spec::Watch(0), MOST_HANDLES)
-    }
-
-    fn open(spec: Spec<u64>, most: u32) -> Result<CoreChannel, OpenFault> {
-        Ok(CoreChannel {
+    #[inline]
+    fn of_most(core: Recording, most: u32) -> CoreChannel {
+        CoreChannel {
             most,
-            first: Machine::first(Recording::open(spec)?, most),
+            first: Machine::first(core, most),
             further: Vec::new(),
             newest: 0,
-            numbers: Numbers::of_machine(),
-        })
-    }
-
-    /// Keeps the last calls alone, from the opening on. No call was made yet.
-    pub(crate) fn fly(&mut self, chunk: usize) -> Result<(), NoMemory> {
-        let core = Recording::open_flight(self.first.core.spec(), chunk);
-        self.first.core = core.map_err(|_| NoMemory)?;
-        self.first.look_when_full();
-        Ok(())
+            numbers: Numbers::default(),
+        }
     }
 
     /// Goes on with the last calls alone. It makes each recorded call again. At an error nothing
@@ -141,13 +130,6 @@ impl CoreChannel {
         }
     }
 
-    /// Says that no journal has the channel, so that the numbers of all its handles may be used
-    /// again.
-    pub(crate) fn leave_unnamed(&mut self) {
-        self.end();
-        self.numbers.keep(0);
-    }
-
     /// How many entries the journal has.
     pub(crate) fn entries(&mut self) -> u64 {
         self.first.core.entries()
@@ -212,8 +194,11 @@ impl CoreChannel {
     /// How many values a broadcast retains for some receiver. They are the last ones that were
     /// sent, in each machine.
     pub(crate) fn queued(&mut self) -> u64 {
-        let queued = self.machines().map(|machine| machine.core.queued());
-        queued.max().unwrap_or_default()
+        let mut most = 0;
+        for machine in self.machines() {
+            most = most.max(machine.core.queued());
+        }
+        most
     }
 
     /// How many values a receiver of a broadcast has yet to receive.
@@ -268,13 +253,14 @@ impl CoreChannel {
     ) -> Reply {
         let own = place.machine();
         let reply = call(&mut self.machine(own).core, place.handle());
+        let mut reply = reply.expect_made();
         let first = iter::once(Some(&mut self.first));
         let all = first.chain(self.further.iter_mut().map(Option::as_mut));
         let others = all.enumerate().filter(|(number, _)| *number != own);
-        let others = others.filter_map(|(_, machine)| machine);
-        others.fold(reply.expect_made(), |reply, machine| {
-            fold(reply, made(machine.by_sender(call)))
-        })
+        for machine in others.filter_map(|(_, machine)| machine) {
+            reply = fold(reply, made(machine.by_sender(call)));
+        }
+        reply
     }
 
     /// Makes a call that creates a handle: by the caller, or where there are several machines in

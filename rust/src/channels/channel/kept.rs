@@ -1,7 +1,7 @@
 //! The last calls of a channel as they are copied for a journal, with all that its names say.
 
 use super::chunk_size::ChunkSize;
-use super::last_calls::LastCallsCopy;
+use super::last_calls::{LastCalls, LastCallsCopy};
 use super::{CallSite, ChannelState, WaitNow};
 use crate::channels::backend::{Kept, MOST_CHUNK};
 use crate::core::source::rw_law::NoMemory;
@@ -66,38 +66,38 @@ impl NotedChannel {
 }
 
 impl ChannelState {
-    /// Keeps the last calls alone, from the opening on: `calls` of them, or more where a chunk
-    /// copies much. The channel was opened now, and no call was made. At an error nothing has
-    /// changed.
-    pub(crate) fn fly(&mut self, calls: usize, times: Times) -> Result<(), NoMemory> {
-        let size = ChunkSize::new(calls);
-        self.core.fly(size.now())?;
-        self.set_last_calls(size, times, true);
-        Ok(())
+    /// Notes the last calls alone, by chunks of this size. The channel was opened now, to keep
+    /// these, and no call was made.
+    pub(super) fn fly(&mut self, size: ChunkSize, times: Times) {
+        let mut last = Box::new(LastCalls::new(size, self.retained_capacity(), times));
+        last.begin(true, self.sent_count());
+        self.last_calls = Some(last);
     }
 
     /// Goes on with the last calls alone. It makes each recorded call again. At an error nothing
     /// has changed.
     pub(crate) fn keep_last(&mut self, times: Times) -> Result<(), NoMemory> {
         if self.is_recorded && self.keeps_all {
+            let actors = self.actors_of_all();
             self.core.keep_last(MOST_CHUNK)?;
-            self.set_last_calls(ChunkSize::new(MOST_CHUNK), times, false);
+            self.set_last_calls(ChunkSize::new(MOST_CHUNK), times, actors);
         }
         Ok(())
     }
 
-    /// Notes the last calls by their chunks, from what is known of all calls.
-    fn set_last_calls(&mut self, size: ChunkSize, times: Times, is_of_flight: bool) {
+    /// Notes the last calls by their chunks, from what is known of all calls, which these actors
+    /// have made.
+    fn set_last_calls(&mut self, size: ChunkSize, times: Times, actors: u64) {
         let capacity = self.retained_capacity();
-        let mut noted = self.noted(size, capacity, times);
-        noted.begin(is_of_flight, self.sent_count());
+        let mut noted = self.noted(size, capacity, times, actors);
+        noted.begin(false, self.sent_count());
         self.last_calls = Some(Box::new(noted));
         self.keeps_all = false;
         self.locations = Default::default();
         if let Some(seldom) = &mut self.seldom {
             seldom.forget_calls();
         }
-        self.actors = 0;
+        self.actors = (0, 0);
     }
 
     /// How many values the channel retains at most.
@@ -117,8 +117,9 @@ impl ChannelState {
             },
             None if self.core.recorded().keeps_last() => return Ok(None),
             None => {
+                let actors = self.actors_of_all();
                 let all = ChunkSize::new(MOST_CHUNK);
-                self.noted(all, usize::MAX, times).copy(false)?
+                self.noted(all, usize::MAX, times, actors).copy(false)?
             }
         };
         let calls = self.core.recorded().kept(MOST_CHUNK)?;
@@ -132,7 +133,7 @@ impl ChannelState {
             let last = self.last_calls.as_ref();
             last.map_or(number, |last| last.kept_number(number, keeps_past))
         };
-        let waits = self.who_waits();
+        let waits = self.who_waits().into_iter();
         let waits = waits.map(|call| (kept_number(call.wait.handle), call));
         let noted = NotedChannel {
             waits: waits.listed(),

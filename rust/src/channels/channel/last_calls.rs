@@ -277,9 +277,8 @@ impl LastCalls {
 
     /// Returns the times that are known of calls and these ones, in the order of their stamps.
     pub(super) fn times_with(&self, others: impl Iterator<Item = Moment>) -> Vec<Moment> {
-        let chunks = [&self.older, &self.newer];
-        let noted = chunks.into_iter().flat_map(|chunk| &chunk.moments);
-        let mut times: Vec<_> = noted.copied().chain(others).listed();
+        let mut times = [&self.older.moments[..], &self.newer.moments].concat();
+        times.push_all(others);
         sort_by_key(&mut times, |time| (time.stamp, time.since_start));
         times
     }
@@ -375,26 +374,26 @@ impl LastCalls {
     /// Returns a copy, to be read while the channel is used. `keeps_past` says whether the calls
     /// are kept by the numbers that handles had before the last renumbering.
     pub(super) fn copy(&self, keeps_past: bool) -> Result<LastCallsCopy, NoMemory> {
-        let chunks = [&self.older, &self.newer];
-        let texts = chunks.iter().flat_map(|chunk| &chunk.texts);
-        let texts = texts.map(|it| (it.number, it.text.clone()));
-        let count = self.retained.len() + self.older.texts.len() + self.newer.texts.len();
-        let mut all_texts = reserved(count)?;
-        all_texts.push_all(self.retained.iter().cloned());
-        all_texts.push_all(texts);
+        let (older, newer) = (&self.older, &self.newer);
+        let count = self.retained.len() + older.texts.len() + newer.texts.len();
+        let mut texts = reserved(count)?;
+        texts.push_all(self.retained.iter().cloned());
+        for chunk in [older, newer] {
+            texts.push_all(chunk.texts.iter().map(|it| (it.number, it.text.clone())));
+        }
         Ok(LastCallsCopy {
             count: self.count(),
-            sites: joined(chunks.map(|chunk| &*chunk.sites))?,
-            waited: joined(chunks.map(|chunk| &*chunk.waited))?,
-            cancelled: joined(chunks.map(|chunk| &*chunk.cancelled))?,
-            texts: all_texts,
-            names: joined(chunks.map(|chunk| &*chunk.names))?,
+            sites: joined(&older.sites, &newer.sites)?,
+            waited: joined(&older.waited, &newer.waited)?,
+            cancelled: joined(&older.cancelled, &newer.cancelled)?,
+            texts,
+            names: joined(&older.names, &newer.names)?,
             handles: if keeps_past {
                 self.past.with(&self.handles)?
             } else {
                 self.handles.copy()?
             },
-            moments: joined(chunks.map(|chunk| &*chunk.moments))?,
+            moments: joined(&older.moments, &newer.moments)?,
             last_wait: None,
             sharing: self.sharing()?,
         })
@@ -415,11 +414,10 @@ impl LastCalls {
 }
 
 /// Copies two lists into one.
-fn joined<T: Clone>(lists: [&[T]; 2]) -> Result<Vec<T>, NoMemory> {
-    let mut joined = reserved(lists.iter().map(|list| list.len()).sum())?;
-    for list in lists {
-        joined.extend_from_slice(list);
-    }
+fn joined<T: Clone>(older: &[T], newer: &[T]) -> Result<Vec<T>, NoMemory> {
+    let mut joined = reserved(older.len() + newer.len())?;
+    joined.extend_from_slice(older);
+    joined.extend_from_slice(newer);
     Ok(joined)
 }
 

@@ -1,8 +1,8 @@
 //! Where the calls of a channel were made.
 
 use crate::core::large_pages::ask_for_large_pages;
-use std::mem;
 use std::panic::Location;
+use std::{iter, mem};
 
 /// Where a call was made in the source. A drop has no caller, so it has none.
 pub(crate) type CallSite = Option<&'static Location<'static>>;
@@ -17,8 +17,12 @@ pub(crate) fn call_site() -> CallSite {
 /// How many call sites a block has. It has 32 KiB.
 const BLOCK: usize = 4096;
 
-/// How many call sites there is room for at first. Most channels have few.
-const FIRST: usize = 4;
+/// How many call sites are in the list itself. A channel that is created and dropped has as many
+/// calls, and as many handles.
+const FIRST: usize = 2;
+
+/// How many others there is room for at first. Most channels have few.
+const NEXT: usize = 4;
 
 /// How many blocks there are of that size. The one after them has room for the rest of a recording.
 const SMALL_BLOCKS: usize = 16;
@@ -30,35 +34,60 @@ const LARGE_BLOCK: usize = 1_048_576;
 /// A list of call sites. It grows by blocks, so what is in a whole block is never copied.
 #[derive(Default)]
 pub(crate) struct CallSites {
-    whole: Vec<Vec<CallSite>>,
+    first: [CallSite; FIRST],
+    // How many there are of the first ones.
+    first_len: usize,
+    // Most channels have none.
+    whole: Option<Box<WholeBlocks>>,
     last: Vec<CallSite>,
 }
+
+/// The blocks before the last one.
+#[derive(Default)]
+struct WholeBlocks(Vec<Vec<CallSite>>);
 
 impl CallSites {
     #[inline(always)]
     pub(crate) fn push(&mut self, site: CallSite) {
         if self.last.len() == self.last.capacity() {
-            self.grow();
+            return self.push_where_full(site);
         }
         self.last.push(site);
     }
 
     #[cold]
+    #[inline(never)]
+    fn push_where_full(&mut self, site: CallSite) {
+        if let Some(first) = self.first.get_mut(self.first_len) {
+            *first = site;
+            self.first_len += 1;
+            return;
+        }
+        self.grow();
+        self.last.push(site);
+    }
+
     fn grow(&mut self) {
         match self.last.capacity() {
-            0 => self.last.reserve_exact(FIRST),
+            0 => self.last.reserve_exact(NEXT),
             BLOCK.. => {
                 let next = self.next_block();
-                self.whole.push(mem::replace(&mut self.last, next));
+                let whole = self.whole.get_or_insert_default();
+                whole.0.push(mem::replace(&mut self.last, next));
             }
             some => self.last.reserve_exact(some),
         }
     }
 
+    /// The blocks before the last one.
+    fn whole(&self) -> &[Vec<CallSite>] {
+        self.whole.as_ref().map_or(&[], |whole| &whole.0)
+    }
+
     /// Allocates the block after the last one. Where there are many calls it asks for large pages,
     /// since else each 512th call is a page fault.
     fn next_block(&self) -> Vec<CallSite> {
-        if self.whole.len() + 1 < SMALL_BLOCKS {
+        if self.whole().len() + 1 < SMALL_BLOCKS {
             return Vec::with_capacity(BLOCK);
         }
         let mut block = Vec::with_capacity(LARGE_BLOCK);
@@ -68,26 +97,37 @@ impl CallSites {
 
     /// Removes the call site that was added last, and returns it.
     pub(crate) fn pop(&mut self) -> CallSite {
-        self.last.pop().flatten()
+        if let Some(site) = self.last.pop() {
+            return site;
+        }
+        self.first_len = self.first_len.checked_sub(1)?;
+        self.first[self.first_len]
+    }
+
+    /// The parts of the list, in their order.
+    fn parts(&self) -> impl Iterator<Item = &[CallSite]> {
+        let first = iter::once(&self.first[..self.first_len]);
+        let whole = self.whole().iter().chain([&self.last]);
+        first.chain(whole.map(Vec::as_slice))
     }
 
     pub(crate) fn iter(&self) -> impl Iterator<Item = &CallSite> {
-        self.whole.iter().flatten().chain(&self.last)
+        self.parts().flatten()
     }
 
     /// Returns the call site before which `before` others were added.
     pub(crate) fn get(&self, mut before: usize) -> CallSite {
-        for block in self.whole.iter().chain([&self.last]) {
-            if let Some(site) = block.get(before) {
+        for part in self.parts() {
+            if let Some(site) = part.get(before) {
                 return *site;
             }
-            before -= block.len();
+            before -= part.len();
         }
         None
     }
 
     pub(crate) fn len(&self) -> usize {
-        self.whole.iter().map(Vec::len).sum::<usize>() + self.last.len()
+        self.parts().map(<[_]>::len).sum()
     }
 }
 
@@ -118,7 +158,7 @@ mod tests {
         }
         let wanted = (0..3 * BLOCK + 7).map(site_of);
         assert!(sites.iter().copied().eq(wanted));
-        assert_eq!((sites.whole.len(), sites.last.capacity()), (3, BLOCK));
+        assert_eq!((sites.whole().len(), sites.last.capacity()), (3, BLOCK));
     }
 
     #[test]
@@ -130,6 +170,9 @@ mod tests {
         (0..COUNT).for_each(|number| sites.push(site_of(number)));
         assert_eq!(sites.len(), COUNT);
         assert!(sites.iter().copied().eq((0..COUNT).map(site_of)));
-        assert_eq!((sites.whole.len(), sites.last.len()), (SMALL_BLOCKS, BLOCK));
+        assert_eq!(
+            (sites.whole().len(), sites.last.len()),
+            (SMALL_BLOCKS, BLOCK - FIRST)
+        );
     }
 }

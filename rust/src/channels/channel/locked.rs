@@ -1,7 +1,9 @@
 //! Calls, which are made while the channel is locked.
 
+use super::receivers::WEAK_SLOT;
 use super::{
-    Call, CallSite, ChannelState, CoreChannel, ListedCall, NO_SLOT, RecordedChannel, Send, Slot,
+    Access, Call, CallSite, ChannelState, CoreChannel, ListedCall, NO_SLOT, RecordedChannel, Send,
+    Slot,
 };
 use crate::channels::actors;
 use crate::channels::backend::{Actor, Caller};
@@ -12,7 +14,6 @@ use crate::channels::recorder::{DumpRequest, Shared};
 use crate::channels::turns::Permit;
 use crate::channels::wait::{Awaited, Look, Method, Wait, WaitFor};
 use crate::channels::wakers::{WakeAtEnd, Wakers};
-use crate::core::shim::alloc::Global;
 use crate::core::source::rw_waiting::told;
 use crate::run::clock::now;
 use crate::run::reply::Reply;
@@ -35,54 +36,7 @@ pub(crate) struct LockedChannel<'a> {
     stamp: u64,
 }
 
-/// By what a call is made, before it locks its channel. Of a channel without a recorder that is
-/// nothing, and whoever asks for that once has calls that ask for it no more.
-#[derive(Default)]
-pub(crate) struct Access<'a> {
-    pub(crate) recorder: Option<&'a Shared>,
-    // Of the next call, in a replay.
-    pub(crate) permit: Option<Permit<'a>>,
-}
-
 impl RecordedChannel {
-    /// Locks the channel for a call by the handle with this number, which is made here in the
-    /// source, and has its turn by this permit.
-    #[cfg_attr(debug_assertions, inline(never))]
-    #[cfg_attr(not(debug_assertions), inline)]
-    pub(crate) fn lock<'a>(
-        &'a self,
-        permit: Option<Permit<'a>>,
-        handle: u32,
-        called_at: CallSite,
-    ) -> LockedChannel<'a> {
-        let recorder = self.recorder.0.as_deref();
-        self.lock_with(Access { recorder, permit }, handle, called_at)
-    }
-
-    /// Locks the channel, as [`lock`](RecordedChannel::lock) does, by what the call has.
-    #[cfg_attr(debug_assertions, inline(never))]
-    #[cfg_attr(not(debug_assertions), inline(always))]
-    pub(crate) fn lock_with<'a>(
-        &'a self,
-        access: Access<'a>,
-        handle: u32,
-        called_at: CallSite,
-    ) -> LockedChannel<'a> {
-        let actor = match access.recorder {
-            Some(recorder) => recorder.actor(called_at),
-            None => Actor::FIRST,
-        };
-        LockedChannel {
-            state: self.state.lock(),
-            channel: self,
-            access,
-            actor,
-            handle,
-            called_at,
-            stamp: 0,
-        }
-    }
-
     /// Notes that the receiver with this number, in this slot, was told here that it has lost
     /// values. Returns the event.
     // What is cold gets what it needs, and not a `LockedChannel`, which would be stored in memory
@@ -140,9 +94,9 @@ fn tell_made(permit: Option<Permit<'_>>, is_recorded: bool, text: Option<&str>) 
 #[inline(always)]
 fn call_unrecorded(
     state: &mut ChannelState,
-    call: impl Fn(&mut CoreChannel, Caller) -> Reply,
+    call: impl Fn(&mut ChannelState, Caller) -> Reply,
 ) -> Reply {
-    let reply = call(&mut state.core, Caller::UNRECORDED);
+    let reply = call(state, Caller::UNRECORDED);
     if reply.leaves_entry() {
         reply
     } else {
@@ -151,12 +105,34 @@ fn call_unrecorded(
 }
 
 impl<'a> LockedChannel<'a> {
+    /// Locks a channel for the calls of this actor.
+    #[inline(always)]
+    pub(super) fn of(
+        channel: &'a RecordedChannel,
+        access: Access<'a>,
+        actor: Actor,
+        handle: u32,
+        called_at: CallSite,
+    ) -> LockedChannel<'a> {
+        LockedChannel {
+            state: channel.state.lock(),
+            channel,
+            access,
+            actor,
+            handle,
+            called_at,
+            stamp: 0,
+        }
+    }
+
     /// Makes a call.
     #[cfg_attr(debug_assertions, inline(never))]
     #[cfg_attr(not(debug_assertions), inline(always))]
     pub(crate) fn call(&mut self, call: Call) -> Reply {
         let handle = self.handle;
-        self.call_core(&None, move |core, caller| call(core, caller, handle))
+        self.call_core(&None, move |state, caller| {
+            call(&mut state.core, caller, handle)
+        })
     }
 
     /// Makes a call that creates a handle of this kind, and returns its slot with the reply. If a
@@ -171,10 +147,12 @@ impl<'a> LockedChannel<'a> {
         let Reply::New(number) = reply else {
             return (reply, NO_SLOT);
         };
-        self.state.store_making(self.called_at);
+        let (state, made_at) = (&mut *self.state, self.called_at);
+        state.store_making(made_at);
         let slot = match kind {
-            Kind::Receiver => self.state.receivers.add(number as u32, self.called_at),
-            Kind::Sender | Kind::WeakSender => NO_SLOT,
+            Kind::Receiver => state.receivers.add(number as u32, made_at),
+            Kind::Sender => NO_SLOT,
+            Kind::WeakSender => WEAK_SLOT,
         };
         (reply, slot)
     }
@@ -184,21 +162,23 @@ impl<'a> LockedChannel<'a> {
     #[cfg_attr(debug_assertions, inline(never))]
     #[cfg_attr(not(debug_assertions), inline(always))]
     pub(crate) fn send(&mut self, text: Option<String>, call: Send) -> (u64, Reply) {
-        let (handle, number) = (self.handle, self.state.value_count);
-        let reply = self.call_core(&text, move |core, caller| {
-            call(core, caller, handle, number)
+        let handle = self.handle;
+        let reply = self.call_core(&text, move |state, caller| {
+            call(&mut state.core, caller, handle, state.value_count)
         });
-        self.state.value_count += 1;
+        let state = &mut *self.state;
+        let number = state.value_count;
+        state.value_count = number + 1;
         match reply {
-            Reply::NoReceivers(_) => self.state.unsent_count += 1,
+            Reply::NoReceivers(_) => state.unsent_count += 1,
             _ => {
-                self.state.last_send.note(self.called_at);
-                self.state.sent_stamp = self.stamp;
+                state.last_send.note(self.called_at);
+                state.sent_stamp = self.stamp;
             }
         }
         if let Some(text) = text {
             let is_sent = !matches!(reply, Reply::NoReceivers(_));
-            self.state.store_text(number, text, is_sent);
+            state.store_text(number, text, is_sent);
         }
         (number, reply)
     }
@@ -206,39 +186,38 @@ impl<'a> LockedChannel<'a> {
     /// Makes a call. It gets the recorder's next number under the channel's lock, so stamps differ
     /// and are in the order of the calls: on each channel, and on several channels if one call
     /// returned before the other began. `text` is that of the value that it sends.
-    // Where it isn't inlined, the core's call is one by a pointer.
+    // Where it isn't inlined, the core's call is one by a pointer. `call` borrows the state, which
+    // is borrowed here once: without optimization that takes a call each time.
     #[inline(always)]
     fn call_core(
         &mut self,
         text: &Option<String>,
-        call: impl Fn(&mut CoreChannel, Caller) -> Reply,
+        call: impl Fn(&mut ChannelState, Caller) -> Reply,
     ) -> Reply {
         let state = &mut *self.state;
-        let (channel, by) = (self.channel, (self.actor, self.called_at));
         let Some(recorder) = self.access.recorder else {
             return call_unrecorded(state, call);
         };
+        let (actor, called_at) = (self.actor, self.called_at);
         let clock;
-        if state.keeps_all && !recorder.is_past_limit() {
+        // One that shares the clock with none is past the limit once it no longer keeps all.
+        if state.keeps_all && !(state.shares_clock && recorder.is_past_limit()) {
             // It is added before the call, so that nothing of the reply has to be stored meanwhile.
-            state.locations.of_calls.push(self.called_at);
-            state.actors |= self.actor.bit();
-            clock = recorder.tick();
+            state.locations.of_calls.push(called_at);
+            clock = recorder.tick(state.shares_clock);
             self.stamp = clock + 1;
-        } else if state.adds_plain(by.0, by.1) {
-            clock = recorder.tick();
+        } else if state.adds_plain(actor, called_at) {
+            clock = recorder.tick(state.shares_clock);
             self.stamp = clock + 1;
         } else {
-            clock = channel.tick_rarely(recorder, state, by);
+            let by = (actor, called_at);
+            clock = self.channel.tick_rarely(recorder, state, by);
             self.stamp = state.stamp_after(clock);
         }
-        let caller = Caller {
-            actor: self.actor,
-            clock,
-        };
-        let reply = call(&mut state.core, caller);
+        let caller = Caller { actor, clock };
+        let reply = call(state, caller);
         if !reply.leaves_entry() {
-            let permit = self.access.permit.take();
+            let (channel, permit) = (self.channel, self.access.permit.take());
             let reply = channel.end_unrecorded(state, permit, caller, reply, call);
             self.stamp = state.stamp_after(clock);
             return reply;
@@ -432,7 +411,7 @@ impl<'a> LockedChannel<'a> {
     #[cfg_attr(debug_assertions, inline(never))]
     #[cfg_attr(not(debug_assertions), inline(always))]
     pub(crate) fn unlock_and_wake(self, reply: Reply) {
-        if self.state.is_awaited(WaitFor::Value) {
+        if !self.state.waiting.is_empty(WaitFor::Value) {
             unlock_and_wake_each(self.state, reply);
         }
     }
@@ -442,7 +421,7 @@ impl<'a> LockedChannel<'a> {
     #[cfg_attr(debug_assertions, inline(never))]
     #[cfg_attr(not(debug_assertions), inline(always))]
     pub(crate) fn unlock_drop_and_wake<V>(self, dropped: V, reply: Reply) {
-        if self.state.is_awaited(WaitFor::Value) {
+        if !self.state.waiting.is_empty(WaitFor::Value) {
             unlock_drop_and_wake_each(self.state, dropped, reply);
         } else {
             drop(self);
@@ -484,20 +463,15 @@ fn unlock_drop_and_wake_each<V>(
 }
 
 impl ChannelState {
-    /// Whether some future waits for this.
-    #[inline(always)]
-    fn is_awaited(&self, it: WaitFor) -> bool {
-        !self.waiting.is_empty(it)
-    }
-
     /// Removes the futures that a call by a handle of this kind has told, which has this reply, and
     /// returns their wakers.
     #[inline]
     fn remove_wakers(&mut self, kind: Kind, reply: Reply) -> Wakers {
-        if self.is_awaited(WaitFor::Value) || self.is_awaited(WaitFor::NoReceiver) {
-            self.remove_wakers_now(kind, reply)
-        } else {
+        let waiting = &self.waiting;
+        if waiting.is_empty(WaitFor::Value) && waiting.is_empty(WaitFor::NoReceiver) {
             Wakers::default()
+        } else {
+            self.remove_wakers_now(kind, reply)
         }
     }
 
@@ -505,6 +479,6 @@ impl ChannelState {
     #[inline(never)]
     fn remove_wakers_now(&mut self, kind: Kind, reply: Reply) -> Wakers {
         let notice = reply.notice(|| (kind, self.core.alive(kind)));
-        Wakers::woken(self.waiting.woken(Global, notice.and_then(told)))
+        Wakers::woken(self.waiting.woken(notice.and_then(told)))
     }
 }

@@ -75,8 +75,10 @@ pub(super) struct Machine {
 
 impl Machine {
     /// Wraps the first machine of a channel, which makes this many handles.
+    #[inline]
     pub(super) fn first(core: Recording, most: u32) -> Machine {
-        Machine {
+        let (keeps_all, keeps_last) = (core.is_recorded(), core.keeps_last());
+        let mut machine = Machine {
             core,
             most,
             made: 2,
@@ -88,13 +90,18 @@ impl Machine {
             receiver: None,
             weak: None,
             by_nobody: 0,
+        };
+        if keeps_last {
+            machine.look_when_full();
+        } else if !keeps_all {
+            machine.set_next_look();
         }
+        machine
     }
 
     /// Opens a further machine of a channel. All of its handles stand for others.
     pub(super) fn further(spec: Spec<u64>, most: u32, is_closed: bool) -> Machine {
-        let mut core = Recording::open(spec).unwrap_or_else(|_| no_memory());
-        core.end();
+        let mut core = Recording::open_unrecorded(spec).unwrap_or_else(|_| no_memory());
         let weak = match spec {
             Spec::Broadcast(_) => Some(made(core.broadcast_downgrade(NOBODY, 0)).new_handle()),
             Spec::Watch(_) => None,

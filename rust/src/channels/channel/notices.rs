@@ -19,6 +19,7 @@ impl Kind {
 impl Reply {
     /// Returns what a call with this reply tells those who wait. `dropped` is of a drop: the kind
     /// of the handle, and how many handles of that kind are alive then.
+    #[inline(always)]
     pub(super) fn notice(self, dropped: impl FnOnce() -> (Kind, u64)) -> Option<Notice> {
         match self {
             Reply::Sent(_) | Reply::Stored | Reply::Old(_) => Some(Notice::Sent),

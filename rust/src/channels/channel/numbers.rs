@@ -36,7 +36,17 @@ impl Place {
 }
 
 /// Where each handle of a channel is, by its number.
+#[derive(Default)]
 pub(super) struct Numbers {
+    // Most channels have none.
+    own: Option<Box<OwnNumbers>>,
+    // The numbers below this one are in the journal, or were there when recording ended. They
+    // aren't used again.
+    in_journal: u32,
+}
+
+/// The numbers of a channel whose handles have, or had, others than those of the first machine.
+struct OwnNumbers {
     // Where each handle is, by its number. Where no handle has a number, the next such number.
     // Empty while each handle has the number that the first machine gave it.
     places: Vec<Place>,
@@ -45,25 +55,37 @@ pub(super) struct Numbers {
     nths: Vec<u64>,
     // The number that is used next, if a handle was dropped that had one of its own.
     free: u32,
-    // The numbers below this one are in the journal, or were there when recording ended. They
-    // aren't used again.
-    in_journal: u32,
     // How many handles were created before the first number that isn't in `nths`.
     created: u64,
 }
 
-impl Numbers {
+impl OwnNumbers {
     /// The numbers of a channel of which each handle has the number that the first machine gave it.
-    pub(super) fn of_machine() -> Numbers {
-        Numbers {
-            places: Vec::new(),
-            nths: Vec::new(),
-            free: NO_NUMBER,
-            in_journal: 0,
-            created: 0,
-        }
+    const OF_MACHINE: OwnNumbers = OwnNumbers {
+        places: Vec::new(),
+        nths: Vec::new(),
+        free: NO_NUMBER,
+        created: 0,
+    };
+
+    /// Notes of the handles below this number how many were created before. There are no places.
+    fn know_until(&mut self, number: u32) {
+        let nth = self.created;
+        let more = u64::from(number).saturating_sub(self.nths.len() as u64);
+        self.nths.extend(nth..nth + more);
+        self.created += more;
     }
 
+    /// How many handles the channel had created before the one with this number.
+    fn nth(&self, number: u32) -> u64 {
+        match self.nths.get(number as usize) {
+            Some(nth) => *nth,
+            None => self.created + u64::from(number) - self.nths.len() as u64,
+        }
+    }
+}
+
+impl Numbers {
     /// Says that the numbers below this one aren't to be used again, since a journal may have them.
     pub(super) fn keep(&mut self, in_journal: u32) {
         self.in_journal = in_journal;
@@ -72,29 +94,32 @@ impl Numbers {
     /// Whether handles may have other numbers than those that their machine gave them.
     #[inline(always)]
     pub(super) fn are_own(&self) -> bool {
-        !self.places.is_empty()
+        match &self.own {
+            None => false,
+            Some(own) => !own.places.is_empty(),
+        }
+    }
+
+    /// Those that aren't, or weren't always, the numbers of the machine.
+    fn own(&mut self) -> &mut OwnNumbers {
+        self.own
+            .get_or_insert_with(|| Box::new(OwnNumbers::OF_MACHINE))
     }
 
     /// Reserves memory for numbers of their own, for the handles of a machine that has made this
     /// many.
     pub(super) fn reserve(&mut self, made: u32) -> Result<(), TryReserveError> {
-        self.places.try_reserve(made as usize)?;
-        self.nths.try_reserve(made as usize)
+        let own = self.own();
+        own.places.try_reserve(made as usize)?;
+        own.nths.try_reserve(made as usize)
     }
 
     /// Says that from now on handles may have other numbers than those that the machine gave them,
     /// which has made this many.
     pub(super) fn begin(&mut self, made: u32) {
-        self.places.extend((0..made).map(Place));
-        self.know_until(made);
-    }
-
-    /// Notes of the handles below this number how many were created before. There are no places.
-    fn know_until(&mut self, number: u32) {
-        let nth = self.created;
-        let more = u64::from(number).saturating_sub(self.nths.len() as u64);
-        self.nths.extend(nth..nth + more);
-        self.created += more;
+        let own = self.own();
+        own.places.extend((0..made).map(Place));
+        own.know_until(made);
     }
 
     /// Whether handles may have the numbers of a machine in which these many are alive, and no
@@ -106,15 +131,16 @@ impl Numbers {
     /// Says that from now on each handle has the number that the first machine gave it, which had
     /// made `made` of them. Those that are alive have the numbers below `alive`.
     pub(super) fn be_of_machine(&mut self, alive: u32, made: u32) {
-        if self.are_own() {
-            self.places.clear();
+        let own = self.own();
+        if own.places.is_empty() {
+            let created = own.nth(made);
+            own.know_until(alive);
+            own.created = created;
         } else {
-            let created = self.nth(made);
-            self.know_until(alive);
-            self.created = created;
+            own.places.clear();
         }
-        self.nths.truncate(alive as usize);
-        self.free = NO_NUMBER;
+        own.nths.truncate(alive as usize);
+        own.free = NO_NUMBER;
     }
 
     /// Returns where the handle with this number is, where handles may have other numbers than
@@ -122,63 +148,64 @@ impl Numbers {
     #[inline(always)]
     pub(super) fn own_place(&self, number: u32) -> Option<Place> {
         // Most channels have none, and without optimization this is the fastest question.
-        if self.places.is_empty() {
-            return None;
+        match &self.own {
+            None => None,
+            Some(own) => own.places.get(number as usize).copied(),
         }
-        self.places.get(number as usize).copied()
     }
 
     /// Returns where the handle with this number is, where it has one of its own.
     #[inline]
-    pub(super) fn place(&self, number: u32) -> Place {
-        self.places[number as usize]
+    pub(super) fn place(&mut self, number: u32) -> Place {
+        self.own().places[number as usize]
     }
 
     /// How many handles the channel had created before the one with this number.
     pub(super) fn nth(&self, number: u32) -> u64 {
-        match self.nths.get(number as usize) {
-            Some(nth) => *nth,
-            None => self.created + u64::from(number) - self.nths.len() as u64,
+        match &self.own {
+            None => number.into(),
+            Some(own) => own.nth(number),
         }
     }
 
     /// How many handles the channel has created, if the first machine has made `made` of them.
     pub(super) fn all_created(&self, made: u32) -> u64 {
-        if self.are_own() {
-            self.created
-        } else {
-            self.nth(made)
+        match &self.own {
+            Some(own) if !own.places.is_empty() => own.created,
+            _ => self.nth(made),
         }
     }
 
     /// Adds a handle that was created at this place, and returns its number.
     #[inline]
     pub(super) fn add(&mut self, place: Place) -> u32 {
-        let (number, nth) = (self.free, self.created);
-        self.created += 1;
+        let own = self.own();
+        let (number, nth) = (own.free, own.created);
+        own.created += 1;
         if number == NO_NUMBER {
-            self.places.push(place);
-            self.nths.push(nth);
-            return self.places.len() as u32 - 1;
+            own.places.push(place);
+            own.nths.push(nth);
+            return own.places.len() as u32 - 1;
         }
         let index = number as usize;
-        self.free = mem::replace(&mut self.places[index], place).0;
-        self.nths[index] = nth;
+        own.free = mem::replace(&mut own.places[index], place).0;
+        own.nths[index] = nth;
         number
     }
 
     /// Says that the handle with this number is at another place now.
     #[inline]
     pub(super) fn set_place(&mut self, number: u32, place: Place) {
-        self.places[number as usize] = place;
+        self.own().places[number as usize] = place;
     }
 
     /// Removes a handle that is dropped. Its number is used again, unless a journal may have it.
     #[inline]
     pub(super) fn remove(&mut self, number: u32) {
         if number >= self.in_journal {
-            self.places[number as usize] = Place(self.free);
-            self.free = number;
+            let own = self.own();
+            own.places[number as usize] = Place(own.free);
+            own.free = number;
         }
     }
 }

@@ -21,9 +21,9 @@ pub(crate) struct PausedFlight {
 
 impl PausedFlight {
     /// Counts a call, which gets the recorder's next number, since the core keeps it all the same.
-    pub(super) fn tick(&mut self, recorder: &Shared) -> u64 {
+    pub(super) fn tick(&mut self, recorder: &Shared, is_shared: bool) -> u64 {
         self.calls += 1;
-        recorder.tick()
+        recorder.tick(is_shared)
     }
 
     /// Counts a call less, since it wasn't made.

@@ -2,18 +2,33 @@
 
 use super::CallSite;
 use super::waits::{NO_PLACE, WaitPlace};
-use std::{iter, mem};
+use crate::channels::handle::Kind;
+use std::mem;
 
 /// Where a receiver is in the list of those that are alive.
 #[derive(Clone, Copy, Debug, PartialEq, Eq)]
 pub(crate) struct Slot(u32);
 
-/// The slot of a handle that is no receiver.
+/// The slot of a sender, which is none.
 pub(crate) const NO_SLOT: Slot = Slot(u32::MAX);
+
+/// That of a weak sender. Fewer receivers are alive, since a channel has no place for as many
+/// handles.
+pub(super) const WEAK_SLOT: Slot = Slot(u32::MAX - 1);
 
 impl Slot {
     /// The slot of the receiver that a channel is opened with.
     pub(crate) const FIRST: Slot = Slot(0);
+
+    /// Returns the kind of the handle that has this slot.
+    #[inline(always)]
+    pub(crate) fn kind(self) -> Kind {
+        match self {
+            NO_SLOT => Kind::Sender,
+            WEAK_SLOT => Kind::WeakSender,
+            _ => Kind::Receiver,
+        }
+    }
 }
 
 /// What is known of a receiver, besides what the core knows.
@@ -162,7 +177,7 @@ impl Receivers {
     #[inline(always)]
     pub(crate) fn has_wait(&self, slot: Slot) -> bool {
         let receiver = self.slot(slot);
-        receiver.is_some_and(|receiver| receiver.wait != NO_PLACE)
+        receiver.is_some_and(|receiver| receiver.wait.is_some())
     }
 
     /// Notes that a receiver has received a value here, by a call with this stamp. Returns whether
@@ -174,7 +189,7 @@ impl Receivers {
         };
         receiver.received_at = received_at;
         receiver.received_stamp = stamp;
-        receiver.wait != NO_PLACE
+        receiver.wait.is_some()
     }
 
     /// Notes that a receiver was told that it has lost `lost` values.
@@ -191,10 +206,9 @@ impl Receivers {
 
     /// Returns the receivers.
     pub(crate) fn iter(&self) -> impl Iterator<Item = &LiveReceiver> {
-        let others = self.others.iter().map(|it| &it.0);
-        iter::once(&self.first)
-            .chain(others)
-            .filter(|receiver| receiver.number != NO_NUMBER)
+        let slots = 0..self.others.len() as u32 + 1;
+        let receivers = slots.filter_map(|slot| self.slot(Slot(slot)));
+        receivers.filter(|receiver| receiver.number != NO_NUMBER)
     }
 }
 

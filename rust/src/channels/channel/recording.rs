@@ -1,6 +1,6 @@
 //! How a call of a channel is recorded: with all others, among the last ones, or not at all.
 
-use super::{CallSite, ChannelState, CoreChannel, RecordedChannel};
+use super::{CallSite, ChannelState, RecordedChannel};
 use crate::channels::backend::{Actor, Caller};
 use crate::channels::recorder::Shared;
 use crate::channels::turns::Permit;
@@ -49,13 +49,13 @@ impl RecordedChannel {
             state.resize_chunk();
         }
         if state.paused.is_some() && !state.goes_on(recorder) {
-            let paused = state.paused.as_mut();
-            return paused.map_or(0, |paused| paused.tick(recorder));
+            let (paused, is_shared) = (state.paused.as_mut(), state.shares_clock);
+            return paused.map_or(0, |paused| paused.tick(recorder, is_shared));
         }
         let Some(last) = &mut state.last_calls else {
             return 0;
         };
-        let clock = recorder.tick();
+        let clock = recorder.tick(state.shares_clock);
         last.add(called_at, actor, clock + 1);
         clock
     }
@@ -111,14 +111,14 @@ impl RecordedChannel {
         permit: Option<Permit<'_>>,
         caller: Caller,
         mut reply: Reply,
-        call: impl Fn(&mut CoreChannel, Caller) -> Reply,
+        call: impl Fn(&mut ChannelState, Caller) -> Reply,
     ) -> Reply {
         let called_at = state.remove_location();
         if reply == Reply::JournalFull {
             if !self.goes_on_past_limit(state, (caller, called_at)) {
                 self.end_recording(state);
             }
-            reply = call(&mut state.core, caller);
+            reply = call(state, caller);
             if reply.leaves_entry() {
                 return reply;
             }

@@ -5,6 +5,7 @@ use super::ChannelState;
 use crate::channels::channel_lock::ChannelLock;
 use crate::channels::lock::lock;
 use crate::channels::recorder::Shared;
+use crate::run::listed::{IntoList, PushAll};
 use crate::run::sorting::sort_by_key;
 use std::sync::{Arc, Mutex, Weak};
 
@@ -92,12 +93,13 @@ pub(crate) type RegisteredChannel = (Arc<ChannelLock<ChannelState>>, Option<Arc<
 /// or those of this recorder.
 pub(crate) fn all(of_recorder: Option<&Arc<Shared>>) -> Vec<RegisteredChannel> {
     let all = lock(&ALL);
-    let entries = all.slots.iter().flatten();
-    let mut channels: Vec<_> = entries
-        .filter(|entry| of_recorder.is_none_or(|wanted| entry.is_of(wanted)))
-        .filter_map(|entry| Some((entry.number, entry.upgrade()?)))
-        .collect();
+    let mut channels = vec![];
+    for entry in all.slots.iter().flatten() {
+        if of_recorder.is_none_or(|wanted| entry.is_of(wanted)) {
+            channels.push_all(entry.upgrade().map(|channel| (entry.number, channel)));
+        }
+    }
     drop(all);
     sort_by_key(&mut channels, |(number, _)| *number);
-    channels.into_iter().map(|(_, channel)| channel).collect()
+    channels.into_iter().map(|(_, channel)| channel).listed()
 }

@@ -8,16 +8,15 @@ use super::locations::{CallSite, Locations};
 use super::paused::PausedFlight;
 use super::receivers::{Receivers, Slot};
 use super::seldom::Seldom;
+use super::wait_list::WaitList;
 use super::waits::{ListedCall, ListedCalls, WaitPlace};
 use crate::channels::actors::LastCaller;
-use crate::channels::backend::Actor;
+use crate::channels::backend::{Actor, Recording};
 use crate::channels::handle::Kind;
 use crate::channels::wait::{DroppedWait, Look, Pending, Wait, WaitFor};
 use crate::channels::whereabouts::renews;
 use crate::core::large_pages::without_giving_back;
-use crate::core::shim::alloc::Global;
 use crate::core::source::rw_law::NoMemory;
-use crate::core::source::rw_waiting::Waiting;
 use crate::run::clock::Times;
 use crate::run::listed::IntoList;
 use crate::run::numbered::NumberMap;
@@ -35,6 +34,8 @@ pub(crate) struct ChannelState {
     pub(super) is_recorded: bool,
     // Whether all calls are recorded, and not the last ones alone.
     pub(super) keeps_all: bool,
+    // Whether other channels use the recorder's clock, too.
+    pub(crate) shares_clock: bool,
     // If the last ones alone are, what is known of them.
     pub(super) last_calls: Option<Box<LastCalls>>,
     // If they aren't for a time, since too many handles are alive.
@@ -46,8 +47,9 @@ pub(crate) struct ChannelState {
     // How many values the channel was opened with.
     opened_with: u64,
     pub(crate) made_at: CallSite,
-    // Which actors have made the calls that are stored: a bit for each number.
-    pub(super) actors: u64,
+    // Which actors have made the first of the calls that the core has all of: a bit for each
+    // number, and how many calls these are.
+    pub(super) actors: (u64, usize),
     // The receivers that are alive.
     pub(crate) receivers: Receivers,
     // Who has sent last, and where.
@@ -55,7 +57,7 @@ pub(crate) struct ChannelState {
     // The stamp of that call, which says something while the channel is recorded alone.
     pub(super) sent_stamp: u64,
     // The futures that wait, each until a call wakes it, with its waker once that is cloned.
-    pub(super) waiting: Waiting<Option<Waker>>,
+    pub(super) waiting: WaitList,
     // What is known of the calls that began to wait, each from its first poll to its end. Whether
     // one waits, `waiting` says.
     pub(super) waits: ListedCalls,
@@ -71,22 +73,25 @@ pub(crate) struct ChannelState {
 
 impl ChannelState {
     /// Wraps a channel of the core that was opened with this many values.
-    pub(crate) fn new(core: CoreChannel, value_count: u64, made_at: CallSite) -> ChannelState {
+    #[inline]
+    pub(crate) fn new(core: Recording, value_count: u64, made_at: CallSite) -> ChannelState {
+        let keeps_all = core.is_recorded();
         ChannelState {
-            core,
-            is_recorded: true,
-            keeps_all: true,
+            is_recorded: keeps_all || core.keeps_last(),
+            keeps_all,
+            core: CoreChannel::new(core),
+            shares_clock: false,
             last_calls: None,
             paused: None,
             value_count,
             unsent_count: 0,
             opened_with: value_count,
             made_at,
-            actors: 0,
+            actors: (0, 0),
             receivers: Receivers::default(),
             last_send: LastCaller::default(),
             sent_stamp: 0,
-            waiting: Waiting::new(Global),
+            waiting: WaitList::default(),
             waits: ListedCalls::NONE,
             looks: Vec::new(),
             seldom: None,
@@ -230,10 +235,17 @@ impl ChannelState {
         self.value_count - self.opened_with - self.unsent_count
     }
 
-    /// Returns what is known of the last calls, of what is known of all calls.
-    pub(super) fn noted(&self, size: ChunkSize, capacity: usize, times: Times) -> LastCalls {
+    /// Returns what is known of the last calls, of what is known of all calls, which these actors
+    /// have made.
+    pub(super) fn noted(
+        &self,
+        size: ChunkSize,
+        capacity: usize,
+        times: Times,
+        actors: u64,
+    ) -> LastCalls {
         let mut last = LastCalls::new(size, capacity, times);
-        last.add_all(&self.locations, self.actors);
+        last.add_all(&self.locations, actors);
         let seldom = self.seldom();
         last.add_indexes(&seldom.waited, &seldom.cancelled);
         for (number, text) in &seldom.texts {
@@ -361,15 +373,25 @@ impl ChannelState {
 
     /// Returns the numbers of actors that are needed: those of stored calls, of calls that began to
     /// wait, and of looks. Each is a bit.
-    pub(crate) fn stored_actors(&self) -> u64 {
+    pub(crate) fn stored_actors(&mut self) -> u64 {
+        let of_all = self.actors_of_all();
         let waits = self.waits.iter().map(|wait| wait.actor);
         let dropped = self.seldom().dropped_waits.iter().map(|it| it.wait.actor);
         let looks = self.looks.iter().map(|look| look.actor);
         waits
             .chain(dropped)
             .chain(looks)
-            .fold(self.actors, |all, actor| all | actor.bit())
+            .fold(of_all, |all, actor| all | actor.bit())
             | self.last_calls.as_ref().map_or(0, |last| last.actors())
+    }
+
+    /// Returns which actors have made the calls that the core has all of: a bit for each number. A
+    /// call that was looked at before isn't again.
+    pub(super) fn actors_of_all(&mut self) -> u64 {
+        let (known, count) = self.actors;
+        let (new, all) = self.core.recorded().actors_after(count);
+        self.actors = (known | new, all);
+        known | new
     }
 
     /// Whether all senders, weak senders and receivers are dropped.

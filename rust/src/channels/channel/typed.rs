@@ -51,7 +51,13 @@ impl<T, S> TypedChannel<T, S> {
     /// Whether the channel has a function for the texts of values, and its recorder records.
     #[inline]
     pub(crate) fn has_text_of(&self) -> bool {
-        self.text_of.get().is_some() && self.recorded.recorder.is_recording()
+        let Some(recorder) = &self.recorded.recorder.0 else {
+            return false;
+        };
+        match self.text_of.get() {
+            Some(_) => !recorder.has_ended(),
+            None => false,
+        }
     }
 
     /// Returns the text of a value, if the channel has a function for it and its recorder records.

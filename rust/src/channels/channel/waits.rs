@@ -15,6 +15,14 @@ pub(super) struct WaitPlace(u32);
 /// No place.
 pub(super) const NO_PLACE: WaitPlace = WaitPlace(u32::MAX);
 
+impl WaitPlace {
+    /// Whether it is a place.
+    #[inline(always)]
+    pub(super) fn is_some(self) -> bool {
+        self.0 != NO_PLACE.0
+    }
+}
+
 /// A call that is listed: its place, and its number, which no other call of the channel has. Of two
 /// calls, the one that began first has the lower number.
 #[derive(Clone, Copy, Debug, PartialEq, Eq)]
@@ -182,11 +190,12 @@ impl ListedCalls {
 
     /// Returns the calls in the order in which they began to wait, each with its ticket, if it has
     /// one. Whether it waits isn't known here: see `ChannelState::who_waits`.
-    pub(super) fn in_order(&self) -> impl Iterator<Item = (Option<WaitTicket>, &Wait)> {
+    pub(super) fn in_order(&self) -> Vec<(Option<WaitTicket>, &Wait)> {
         let calls = self.places.iter().filter(|call| call.number != FREE);
         let mut calls: Vec<_> = calls.listed();
         sort_by_key(&mut calls, |call| call.number);
-        calls.into_iter().map(|call| (call.ticket(), &call.wait))
+        let calls = calls.iter().map(|call| (call.ticket(), &call.wait));
+        calls.listed()
     }
 }
 
@@ -212,7 +221,8 @@ mod tests {
     }
 
     fn handles(waits: &ListedCalls) -> Vec<u32> {
-        waits.in_order().map(|(_, wait)| wait.handle).collect()
+        let waits = waits.in_order().into_iter();
+        waits.map(|(_, wait)| wait.handle).collect()
     }
 
     #[test]

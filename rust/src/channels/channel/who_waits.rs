@@ -4,6 +4,7 @@
 use super::ChannelState;
 use super::waits::ListedCall;
 use crate::channels::wait::{Awaited, Wait, WaitFor, WaitTicket};
+use crate::run::listed::IntoList;
 
 /// What a call does that began to wait and has not ended.
 #[derive(Clone, Copy, Debug, PartialEq, Eq)]
@@ -46,12 +47,13 @@ impl ChannelState {
     /// Returns the calls that began to wait and have not ended, in the order in which they began,
     /// and what each does now. It is asked for a report or a snapshot: a call that waits and one
     /// that is woken note nothing for it.
-    pub(crate) fn who_waits(&self) -> impl Iterator<Item = WaitNow> {
+    pub(crate) fn who_waits(&self) -> Vec<WaitNow> {
         let calls = self.waits.in_order();
-        calls.map(|(ticket, wait)| WaitNow {
-            wait: *wait,
-            state: self.state_of(wait.awaited, ticket),
-        })
+        let calls = calls.iter().map(|(ticket, wait)| WaitNow {
+            wait: **wait,
+            state: self.state_of(wait.awaited, *ticket),
+        });
+        calls.listed()
     }
 
     fn state_of(&self, awaited: Awaited, ticket: Option<WaitTicket>) -> WaitState {
@@ -108,7 +110,8 @@ mod tests {
     }
 
     fn states(sender: &broadcast::Sender<u32>) -> Vec<WaitState> {
-        state(sender).who_waits().map(|call| call.state).collect()
+        let calls = state(sender).who_waits();
+        calls.iter().map(|call| call.state).collect()
     }
 
     #[test]
@@ -147,6 +150,7 @@ mod tests {
         assert_eq!(
             state(&sender)
                 .who_waits()
+                .iter()
                 .map(|it| it.is_woken())
                 .collect::<Vec<_>>(),
             [Some(false), Some(true), Some(true), None]

@@ -7,6 +7,7 @@ use crate::channels::channel::CallSite;
 use crate::channels::lock::lock;
 use crate::channels::reentrant::thread_number;
 use crate::run::by_text::TextMap;
+use crate::run::listed::Keep;
 use std::any::Any;
 use std::mem;
 use std::panic::Location;
@@ -169,7 +170,7 @@ pub(crate) fn test_of_this_thread() -> Option<TestOfThread> {
         if let Some(test) = test {
             let _ = test.home.set(thread_number());
             let mut running = lock(&RUNNING);
-            running.retain(|other| other.strong_count() > 0);
+            running.keep(|other| other.strong_count() > 0);
             running.push(Arc::downgrade(&stack));
             expect_any();
         }

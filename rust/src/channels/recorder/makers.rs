@@ -1,6 +1,8 @@
 //! Who has made channels, and how many.
 
+use crate::channels::actors::LastName;
 use crate::run::by_text::{TextMap, TextSet};
+use std::sync::Arc;
 
 /// How many makers there are before those are forgotten whose channels have left the run.
 const MANY: usize = 256;
@@ -13,6 +15,7 @@ const RECENT: u64 = 128;
 #[derive(Default)]
 pub(super) struct Makers {
     made: u64,
+    last: LastName,
     counts: TextMap<Count>,
     // That of callers without a name.
     nameless: Option<Count>,
@@ -25,8 +28,13 @@ struct Count {
 }
 
 impl Makers {
+    /// Returns the name of the current caller, if it has one.
+    pub(super) fn name_of_caller(&mut self) -> Option<Arc<str>> {
+        self.last.of_caller()
+    }
+
     /// Counts a channel that this caller makes, and returns how many it has made before.
-    pub(super) fn count(&mut self, name: &Option<String>) -> u64 {
+    pub(super) fn count(&mut self, name: Option<&str>) -> u64 {
         self.made += 1;
         let last = self.made;
         let known = match name {
@@ -72,16 +80,16 @@ mod tests {
     #[test]
     fn a_maker_with_a_channel_in_the_run_goes_on_counting_and_others_are_forgotten() {
         let mut makers = Makers::default();
-        let (stays, mut in_run) = (Some("stays".to_string()), TextSet::new());
+        let (stays, mut in_run) = (Some("stays"), TextSet::new());
         in_run.insert("stays");
-        assert_eq!((makers.count(&stays), makers.count(&stays)), (0, 1));
+        assert_eq!((makers.count(stays), makers.count(stays)), (0, 1));
         for request in 0..100 * runs() {
-            assert_eq!(makers.count(&Some(format!("request {request}"))), 0);
+            assert_eq!(makers.count(Some(&format!("request {request}"))), 0);
             if makers.are_many() {
                 makers.forget_others(&in_run);
             }
             assert!(makers.counts.len() <= MANY);
         }
-        assert_eq!(makers.count(&stays), 2);
+        assert_eq!(makers.count(stays), 2);
     }
 }

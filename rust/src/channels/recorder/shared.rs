@@ -50,8 +50,6 @@ pub(crate) struct Shared {
     pub(crate) flight: Option<Flight>,
     pub(crate) times: Times,
     clock: CallCounter,
-    // Changes once, while the first channel's lock is held.
-    has_several: AtomicBool,
     // The last stamp that is recorded.
     end: AtomicU64,
     pub(crate) is_quiet: AtomicBool,
@@ -103,7 +101,6 @@ impl Shared {
             flight: None,
             times: Times::begin(),
             clock: CallCounter(AtomicU64::new(0)),
-            has_several: AtomicBool::new(false),
             end: AtomicU64::new(NEVER),
             is_quiet: AtomicBool::new(false),
             shows_known: AtomicBool::new(false),
@@ -161,22 +158,33 @@ impl Shared {
 
     /// Returns who makes a channel now. It is called once for each channel of this recorder.
     pub(crate) fn maker(&self) -> Maker {
-        let name = actors::name_of_caller();
-        if let Some(turns) = &self.turns {
-            turns.see_maker(&name);
+        let mut makers = lock(&self.makers);
+        let name = makers.name_of_caller();
+        if self.turns.is_some() || makers.are_many() {
+            drop(makers);
+            self.see_maker(name.as_deref());
+            makers = lock(&self.makers);
         }
-        if self.turns.is_none() && lock(&self.makers).are_many() {
-            let channels = lock(&self.channels).clone();
-            let mut in_run = TextSet::new();
-            for channel in &channels {
-                let state = lock(channel);
-                let maker = state.made_by.as_ref().and_then(|maker| maker.name.as_ref());
-                in_run.extend(maker);
-            }
-            lock(&self.makers).forget_others(&in_run);
-        }
-        let nth = lock(&self.makers).count(&name);
+        let nth = makers.count(name.as_deref());
         Maker { name, nth }
+    }
+
+    /// Tells who makes a channel, in a replay. Else it forgets makers whose channels have left the
+    /// run, since there are many.
+    #[cold]
+    fn see_maker(&self, name: Option<&str>) {
+        if let Some(turns) = &self.turns {
+            return turns.see_maker(name);
+        }
+        let channels = lock(&self.channels).clone();
+        let mut in_run = TextSet::new();
+        for channel in &channels {
+            let state = lock(channel);
+            if let Some(name) = state.made_by.as_ref().and_then(|it| it.name.as_deref()) {
+                in_run.insert(name);
+            }
+        }
+        lock(&self.makers).forget_others(&in_run);
     }
 
     /// Whether a channel was created under this recorder.
@@ -233,11 +241,12 @@ impl Shared {
             .min(self.end.load(Ordering::SeqCst))
     }
 
-    /// Returns the clock's number for a call whose channel is locked.
+    /// Returns the clock's number for a call whose channel is locked, and shares the clock with
+    /// others or doesn't.
     #[inline(always)]
-    pub(crate) fn tick(&self) -> u64 {
+    pub(crate) fn tick(&self, is_shared: bool) -> u64 {
         let CallCounter(clock) = &self.clock;
-        if self.has_several.load(Ordering::Relaxed) {
+        if is_shared {
             return clock.fetch_add(1, Ordering::SeqCst);
         }
         // With one channel each call holds its lock, so no other call changes the clock in between.
@@ -283,8 +292,9 @@ impl Shared {
         self.flight.is_some() || self.end.load(Ordering::SeqCst) == GOES_ON
     }
 
+    /// Looks up the actor of a call that is made here in the source, given its task.
     #[cold]
-    fn find_actor(&self, task: Option<u64>, called_at: CallSite) -> Actor {
+    pub(crate) fn find_actor(&self, task: Option<u64>, called_at: CallSite) -> Actor {
         let find = || lock(&self.actors).find(task, called_at);
         if let Some(actor) = find().or_else(|| find_after(self.give_numbers_away(), find)) {
             return actor;
@@ -392,29 +402,21 @@ impl Shared {
         clock.fetch_add(numbers, Ordering::SeqCst);
     }
 
-    /// Keeps the last calls of a new channel alone, if that is what the recorder does. Returns
-    /// `false` if there is no memory for it.
-    pub(crate) fn begin_flight(&self, channel: &mut ChannelState) -> bool {
-        let Some(flight) = &self.flight else {
-            return true;
-        };
-        let flies = channel.fly(flight.calls_per_channel, self.times).is_ok();
-        if !flies {
-            eprintln!(
-                "yovanelum: no memory for the last calls of a channel; it is recorded by none"
-            );
-        }
-        flies
+    /// How many calls of each channel are kept at least, if the last ones alone are kept from the
+    /// opening on.
+    pub(crate) fn calls_per_channel(&self) -> Option<usize> {
+        self.flight.as_ref().map(|flight| flight.calls_per_channel)
     }
 
     /// Adds a channel to the run. If the run is full, the oldest dead channel leaves it. Returns
     /// `false` if there is none, and the channel isn't added.
     pub(crate) fn add(&self, channel: &Arc<ChannelLock<ChannelState>>) -> bool {
         let mut channels = lock(&self.channels);
+        // The clock is shared before the second channel uses it.
         if let [first] = &channels[..] {
-            let _first = lock(first);
-            self.has_several.store(true, Ordering::Relaxed);
+            lock(first).shares_clock = true;
         }
+        lock(channel).shares_clock = !channels.is_empty();
         let mut left = None;
         if channels.len() >= MOST_CHANNELS {
             left = channels.iter().position(|other| lock(other).is_dead());

@@ -37,7 +37,7 @@ impl Shared {
             let Some(state) = try_lock_for(channel, PATIENCE) else {
                 continue;
             };
-            waits.push_all(state.who_waits().map(|then| WaitThen {
+            waits.push_all(state.who_waits().into_iter().map(|then| WaitThen {
                 channel: Arc::downgrade(channel),
                 then,
             }));

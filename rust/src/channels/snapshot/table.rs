@@ -3,7 +3,7 @@
 use super::{ChannelSnapshot, NumberedCall, ReceiverSnapshot, Snapshot, Waits};
 use crate::channels::channel::CallSite;
 use crate::run::clock::utc;
-use crate::run::listed::IntoList;
+use crate::run::listed::PushAll;
 use std::fmt;
 
 /// The heads of the columns. Those of numbers are on the right.
@@ -55,10 +55,8 @@ impl fmt::Display for ChannelSnapshot {
         if self.receivers.is_empty() {
             return writeln!(f, "  no receivers");
         }
-        let rows: Vec<_> = [HEADS.map(str::to_string)]
-            .into_iter()
-            .chain(self.receivers.iter().map(row))
-            .listed();
+        let mut rows = vec![HEADS.map(str::to_string)];
+        rows.push_all(self.receivers.iter().map(row));
         fmt_rows(&rows, f)
     }
 }

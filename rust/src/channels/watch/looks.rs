@@ -26,7 +26,12 @@ impl LiveLooks {
             return None;
         }
         let is_free = |is_alive: &AtomicBool| !is_alive.load(Ordering::Acquire);
-        let index = self.0.iter().position(is_free)?;
+        // Most often none is alive.
+        let index = if is_free(&self.0[0]) {
+            0
+        } else {
+            self.0.iter().position(is_free)?
+        };
         channel.note_look(index);
         self.0[index].store(true, Ordering::Relaxed);
         Some(LiveLook(&self.0[index]))

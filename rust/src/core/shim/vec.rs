@@ -12,9 +12,14 @@ use std::ops::{Deref, DerefMut};
 /// block.
 const LARGE: usize = 2 << 20;
 
-/// The size of a whole block: twice that of all calls of a recording, 1,048,576 of 32 bytes. So
-/// their text mostly fits too, and the vector isn't moved when it grows from then on.
-const WHOLE: usize = 2 * 1_048_576 * 32;
+/// The size of a whole block: that of nearly all calls of a recording, 1,048,576 of 32 bytes, so
+/// the vector isn't moved when it grows from then on. It is less than 32 MiB: once a block of such
+/// a size was freed, glibc keeps the memory of later ones that are freed, up to 64 MiB in all. So
+/// the third recorder of a process, and each after it, writes to memory that is there.
+const WHOLE: usize = (32 << 20) - (8 << 10);
+
+/// That of a text, which mostly has all of them.
+const WHOLE_TEXT: usize = 64 << 20;
 
 /// Whether there are whole blocks. On Linux what isn't written needs only addresses. Elsewhere it
 /// may count as memory that is used.
@@ -69,7 +74,7 @@ impl<T> Vec<T> {
             .saturating_add(additional)
             .max(self.0.capacity().saturating_mul(2));
         if HAS_WHOLE_BLOCKS && wanted.saturating_mul(size) >= LARGE {
-            let whole = wanted.max(WHOLE / size);
+            let whole = wanted.max(if size == 1 { WHOLE_TEXT } else { WHOLE / size });
             if self.0.try_reserve_exact(whole - len).is_ok() {
                 ask_for_large_pages(self.0.spare_capacity_mut());
                 return Ok(());
@@ -145,6 +150,18 @@ impl<T> Vec<T> {
     #[inline(always)]
     pub fn as_mut_slice(&mut self) -> &mut [T] {
         &mut self.0
+    }
+
+    /// Rattle's clause: `result ≡ slice_get S.items i`. Where nothing is inlined, a slice's own
+    /// function calls another.
+    #[inline(always)]
+    pub fn get(&self, i: usize) -> Option<&T> {
+        let items = self.0.as_slice();
+        if i < items.len() {
+            Some(&items[i])
+        } else {
+            None
+        }
     }
 
     /// Rattle's clauses: `S'.items ≡ []`, `vec_capacity S' ≡ vec_capacity S`.

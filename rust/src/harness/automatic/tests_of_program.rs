@@ -4,6 +4,7 @@
 
 use crate::harness::program::Program;
 use crate::run::by_text::TextMap;
+use crate::run::listed::{IntoList, PushAll};
 use std::fs;
 use std::ops::RangeInclusive;
 use std::path::{Path, PathBuf};
@@ -46,32 +47,35 @@ pub(super) fn may_report(thread: &str) -> bool {
     let Some(tests) = tests() else {
         return true;
     };
-    of_thread(tests, thread).is_some_and(|mut of_name| of_name.any(|test| !test.should_panic))
+    let of_name = of_thread(tests, thread);
+    of_name.iter().any(|test| !test.should_panic)
 }
 
 /// Returns the functions that may be the test with this path. A test of several cases is a module
 /// that has one function for each.
-fn of_thread<'a>(
-    tests: &'a TestFunctions,
-    path: &str,
-) -> Option<impl Iterator<Item = &'a TestFunction>> {
+fn of_thread<'a>(tests: &'a TestFunctions, path: &str) -> Vec<&'a TestFunction> {
     let mut names = path.rsplit("::").take(2);
-    let found = names.find_map(|name| tests.by_name.get(name))?;
-    Some(found.iter().map(|index| &tests.all[*index]))
+    match names.find_map(|name| tests.by_name.get(name)) {
+        Some(found) => found.iter().map(|index| &tests.all[*index]).listed(),
+        None => Vec::new(),
+    }
+}
+
+/// Returns the functions that may be the test with this path, if a source can be read.
+fn of_path(path: &str) -> Vec<&'static TestFunction> {
+    tests().map_or_else(Vec::new, |tests| of_thread(tests, path))
 }
 
 /// Whether the test with this path is a future, on which its attribute has its thread block. Then
 /// what that returns is what the test does.
 pub(super) fn is_async(path: &str) -> bool {
-    let of_name = tests().and_then(|tests| of_thread(tests, path));
-    let mut found = of_name.into_iter().flatten().peekable();
-    found.peek().is_some() && found.all(|test| test.is_async)
+    let found = of_path(path);
+    !found.is_empty() && found.iter().all(|test| test.is_async)
 }
 
 /// Whether the test with this path returns something, such as a `Result`.
 pub(super) fn returns(path: &str) -> bool {
-    let of_name = tests().and_then(|tests| of_thread(tests, path));
-    of_name.into_iter().flatten().any(|test| test.returns)
+    of_path(path).iter().any(|test| test.returns)
 }
 
 /// Returns the test whose function has this place in the sources: its name, and its path if that is
@@ -100,15 +104,14 @@ pub(super) fn test_at(file: &str, line: u32) -> Option<(&'static str, Option<&'s
 fn tests() -> Option<&'static TestFunctions> {
     static TESTS: OnceLock<Option<TestFunctions>> = OnceLock::new();
     let tests = TESTS.get_or_init(|| {
-        let sources = Program::this().sources();
-        let read = |path: PathBuf| fs::read_to_string(&path).ok().map(|text| (path, text));
-        let texts: Vec<_> = sources.into_iter().map(read).collect();
-        let is_any_read = texts.iter().any(Option::is_some);
-        let of_source = (0..)
-            .zip(&texts)
-            .filter_map(|(nth, read)| Some((nth, read.as_ref()?)));
-        let tests = of_source.flat_map(|(nth, (path, text))| tests_in(path, text, nth == 0));
-        is_any_read.then(|| TestFunctions::of(tests.collect()))
+        let (mut all, mut is_any_read) = (vec![], false);
+        for (nth, path) in Program::this().sources().iter().enumerate() {
+            if let Ok(text) = fs::read_to_string(path) {
+                all.push_all(tests_in(path, &text, nth == 0));
+                is_any_read = true;
+            }
+        }
+        is_any_read.then(|| TestFunctions::of(all))
     });
     tests.as_ref()
 }
@@ -125,7 +128,7 @@ impl TestFunctions {
 
 /// Returns the functions of a source that are tests.
 fn tests_in(path: &Path, text: &str, is_root: bool) -> Vec<TestFunction> {
-    let lines: Vec<_> = text.lines().collect();
+    let lines: Vec<_> = text.lines().listed();
     let functions = text.match_indices("fn ").filter_map(|(at, keyword)| {
         let is_end = |c: char| !(c.is_alphanumeric() || c == '_');
         let rest = &text[at + keyword.len()..];
@@ -150,7 +153,7 @@ fn tests_in(path: &Path, text: &str, is_root: bool) -> Vec<TestFunction> {
             is_at_root: is_root && !lines[first].starts_with(char::is_whitespace),
         })
     });
-    functions.collect()
+    functions.listed()
 }
 
 /// Returns the numbers of the lines of a function whose keyword is in the line with this index. Its

@@ -7,7 +7,7 @@ use super::search::{Search, Task};
 use crate::harness::program;
 use crate::run::account::visible;
 use crate::run::by_text::TextMap;
-use crate::run::listed::IntoList;
+use crate::run::listed::{IntoList, Keep};
 use crate::run::numbered::NumberSet;
 use crate::run::sidecar::push_string;
 use crate::schedule::explore::Schedule;
@@ -157,7 +157,7 @@ impl Counts {
             })
             .listed();
         let mut parts = vec![searched, others.join(", ")];
-        parts.retain(|part| !part.is_empty());
+        parts.keep(|part| !part.is_empty());
         let no_run = match asked {
             None => String::new(),
             Some(AskedCondition {

@@ -10,7 +10,6 @@ use super::tries::Tries;
 use crate::harness::automatic::is_under_command;
 use crate::harness::replay_line::quoted;
 use crate::run::account::visible;
-use crate::run::listed::IntoList;
 use crate::run::sidecar::push_string;
 use crate::schedule::explore::{Order, OrderKind, POINTS, has_points};
 use std::fmt::Write;
@@ -91,10 +90,8 @@ impl FailingOrder {
 
     fn best_tries(&self) -> Tries {
         let mut best = self.by_order;
-        for tries in [Some(self.by_schedule), self.by_journal]
-            .into_iter()
-            .flatten()
-        {
+        let by_journal = self.by_journal.unwrap_or(best);
+        for tries in [self.by_schedule, by_journal] {
             if tries.are_more_than(best) {
                 best = tries;
             }
@@ -248,11 +245,9 @@ impl FailingOrder {
             push_string(json, &self.failure.0);
         }
         let _ = write!(json, ", \"switches\": {}", self.switches);
-        if let race @ Race::Exchange(_) = &self.race {
-            let told = race.in_words(self.failure.is_met());
-            let words: Vec<&str> = told.split_whitespace().skip(2).listed();
+        if let Some(race) = self.race.told(self.failure.is_met()) {
             json.push_str(", \"race\": ");
-            push_string(json, &words.join(" "));
+            push_string(json, &race.text);
         }
         for (key, path) in [("journal", &self.journal), ("schedule", &self.schedule)] {
             let _ = write!(json, ", \"{key}\": ");

@@ -34,12 +34,16 @@ impl PassedRuns {
     /// Returns the one that goes on longest as these steps do, among those for which time is a
     /// choice as it is for them.
     pub(super) fn nearest(&self, steps: &[Step], has_timers: bool) -> Option<&PassedRun> {
-        let same = |run: &&PassedRun| {
+        let mut nearest: Option<(usize, &PassedRun)> = None;
+        for run in &self.runs {
             let both = run.steps.iter().zip(steps);
-            both.take_while(|(a, b)| a.who == b.who).count()
-        };
-        let runs = self.runs.iter().filter(|run| run.has_timers == has_timers);
-        // Of several, the first one has the fewest switches.
-        runs.rev().max_by_key(same)
+            let same = both.take_while(|(a, b)| a.who == b.who).count();
+            // Of several, the first one has the fewest switches.
+            let is_nearer = nearest.is_none_or(|(most, _)| same > most);
+            if is_nearer && run.has_timers == has_timers {
+                nearest = Some((same, run));
+            }
+        }
+        Some(nearest?.1)
     }
 }

@@ -4,7 +4,7 @@ use super::answer::{ANSWER, Answer};
 use super::settings::RUNS;
 use crate::channels::atomic::AtomicU64;
 use crate::channels::lock::lock;
-use crate::run::listed::{IntoList, PushAll};
+use crate::run::listed::{IntoList, Keep, PushAll};
 use crate::schedule::explore::{
     Asked, ORDER, Order, PAUSE, PROCESSOR, RunEnd, SCHEDULE, SESSION, Schedule, Sleeper, TARGET,
     Threads,
@@ -259,10 +259,10 @@ fn look_after(running: &Weak<Mutex<Vec<Weak<Running>>>>) {
     let mut quiet: Vec<(u32, Instant)> = Vec::new();
     while let Some(all) = running.upgrade() {
         let mut all = lock(&all);
-        all.retain(|running| running.strong_count() > 0);
+        all.keep(|running| running.strong_count() > 0);
         let alive: Vec<_> = all.iter().filter_map(Weak::upgrade).listed();
         drop(all);
-        quiet.retain(|(id, _)| alive.iter().any(|running| running.id() == *id));
+        quiet.keep(|(id, _)| alive.iter().any(|running| running.id() == *id));
         for running in alive {
             running.look_after(&mut quiet);
         }
@@ -281,7 +281,7 @@ impl Running {
         }
         let id = self.id();
         if self.knows_hangs || !waits_forever(id) {
-            return quiet.retain(|(other, _)| *other != id);
+            return quiet.keep(|(other, _)| *other != id);
         }
         match quiet.iter().find(|(other, _)| *other == id) {
             Some((_, since)) if since.elapsed() >= HUNG_AFTER => self.end(HANGS),

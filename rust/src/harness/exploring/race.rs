@@ -3,12 +3,16 @@
 use super::exchange::Exchange;
 use crate::run::listed::IntoList;
 use crate::run::operation::Operation;
+use crate::run::sidecar::{RaceFound, RaceStep};
 use crate::schedule::explore::{RunEnd, Schedule, Step, Turn, What};
 use std::fmt::Write as _;
 
 /// How many switches are told, and how many calls within one.
 const SWITCHES_TOLD: usize = 3;
 const CALLS_TOLD: usize = 3;
+
+/// What is between the parts of a race in a report.
+const BREAK: &str = "\n            ";
 
 /// What is known of how a failing order differs from one that passes.
 pub(super) enum Race {
@@ -21,38 +25,56 @@ pub(super) enum Race {
 impl Race {
     /// Says it in lines of a report, where a run fails, or where it meets a condition.
     pub(super) fn in_words(&self, is_met: bool) -> String {
-        let (fails, passes) = if is_met {
-            ("it is met", "isn't")
-        } else {
-            ("it fails", "passes")
-        };
         match self {
             Race::Exchange(found) => {
-                let schedule = &found.failing;
-                let mut file = String::new();
-                let first = step_in_words(schedule, found.first, &mut file);
-                let between = between_in_words(found, &mut file);
-                let then = step_in_words(schedule, found.then, &mut file);
-                format!(
-                    "  the race: {fails} where {first}{between},\n            \
-                    before {then}, and {passes} the other way round\n"
-                )
+                format!("  the race: {}\n", found.in_words(is_met, BREAK).text)
             }
             Race::NonePasses(count) => format!("  none of {count} other orders passes\n"),
             Race::Unknown => String::new(),
         }
     }
+
+    /// Says it in one line, with what it says of both steps, whose calls aren't known here.
+    pub(super) fn told(&self, is_met: bool) -> Option<RaceFound> {
+        match self {
+            Race::Exchange(found) => Some(found.in_words(is_met, " ")),
+            Race::NonePasses(_) | Race::Unknown => None,
+        }
+    }
+}
+
+impl Exchange {
+    /// Says it with this between its parts.
+    fn in_words(&self, is_met: bool, gap: &str) -> RaceFound {
+        let (fails, passes) = if is_met {
+            ("it is met", "isn't")
+        } else {
+            ("it fails", "passes")
+        };
+        let mut file = String::new();
+        let first = step_in_words(&self.failing, self.first, &mut file);
+        let between = between_in_words(self, gap, &mut file);
+        let then = step_in_words(&self.failing, self.then, &mut file);
+        let step = |text| RaceStep { text, stamp: None };
+        RaceFound {
+            text: format!(
+                "{fails} where {first}{between},{gap}before {then}, and {passes} the other way round"
+            ),
+            first: step(first),
+            then: step(then),
+        }
+    }
 }
 
 /// Says what is made between the two steps by others than the first one.
-fn between_in_words(found: &Exchange, file: &mut String) -> String {
+fn between_in_words(found: &Exchange, gap: &str, file: &mut String) -> String {
     let schedule = &found.failing;
     let first = &schedule.steps[found.first].who;
     let between = (found.first + 1..found.then).filter(|at| schedule.steps[*at].who != *first);
     let between: Vec<usize> = between.listed();
     let told = between.iter().take(CALLS_TOLD);
     let mut said: String = told
-        .map(|at| format!(",\n            and {}", step_in_words(schedule, *at, file)))
+        .map(|at| format!(",{gap}and {}", step_in_words(schedule, *at, file)))
         .collect();
     push_more(&mut said, between.len());
     said
@@ -198,7 +220,7 @@ fn meanwhile_in_words(steps: &[Step], schedule: &Schedule, file: &mut String) ->
 
 /// Whether a step is a call, of a recorded channel or of tokio's own.
 fn is_call(step: &Step) -> bool {
-    matches!(step.what, What::Call { .. } | What::Point { .. })
+    step.is_call() || matches!(step.what, What::Point { .. })
 }
 
 /// Adds a call with its place, which has its file only if that isn't this one.

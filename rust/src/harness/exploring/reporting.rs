@@ -14,6 +14,7 @@ use crate::channels::lock::lock;
 use crate::channels::standard_error::say;
 use crate::harness::files;
 use crate::harness::program::Program;
+use crate::run::sidecar::Sidecar;
 use crate::schedule::explore::{Order, Schedule};
 use std::path::{Path, PathBuf};
 use std::{fs, io};
@@ -64,10 +65,7 @@ impl Session {
         found.run = (first.runs, first.took);
         let journal = journal_in(&failing.ran.target);
         self.try_again(&failing, journal.as_deref(), &mut found);
-        // An order that is asked for by its name was told before.
-        if !found.is_by_chance() && !self.has_named_order() {
-            found.race = self.race_of(&failing, &found);
-        }
+        self.find_race(&mut failing, journal.as_deref(), &mut found);
         if let Some(journal) = &journal {
             self.put(journal, &failing, &mut found);
         }
@@ -80,6 +78,21 @@ impl Session {
         }
         say(&lines);
         found
+    }
+
+    /// Looks for the race, and gives the channels their names. An order that is asked for by its
+    /// name was told before.
+    fn find_race(&self, failing: &mut Failing, journal: Option<&Path>, found: &mut FailingOrder) {
+        if !found.is_by_chance() && !self.has_named_order() {
+            found.race = self.race_of(failing, found);
+        }
+        let Some(names) = journal.and_then(names_beside) else {
+            return;
+        };
+        name_channels(&mut failing.schedule, &names);
+        if let Race::Exchange(race) = &mut found.race {
+            name_channels(&mut race.failing, &names);
+        }
     }
 
     fn has_named_order(&self) -> bool {
@@ -155,7 +168,12 @@ impl Session {
         let path = Program::this().target_folder.join(below);
         let by_journal = found.by_journal.unwrap_or_default();
         let is_better = found.by_schedule.are_more_than(by_journal);
-        match replace(&path, journal, is_better.then_some(&failing.schedule)) {
+        let run = RunFiles {
+            journal,
+            schedule: &failing.schedule,
+            is_followed: is_better,
+        };
+        match run.put(&path, found) {
             Ok(path) => {
                 found.schedule = is_better.then(|| path.with_extension("schedule"));
                 found.journal = Some(path);
@@ -175,26 +193,67 @@ impl Session {
     }
 }
 
-/// Replaces the files of a test, of which this is the journal, by those of a run with another one.
-/// Returns the journal that was written.
-fn replace(path: &Path, of_run: &Path, schedule: Option<&Schedule>) -> io::Result<PathBuf> {
-    let beside = |extension| match fs::read(of_run.with_extension(extension)) {
-        Err(error) if error.kind() == io::ErrorKind::NotFound => Ok(None),
-        read => read.map(Some),
-    };
-    let journal = fs::read_to_string(of_run)?;
-    let (names, page) = (beside("names")?, beside("html")?);
-    let schedule = schedule.map(|schedule| schedule.text_beside(&journal));
-    files::replace(
-        path,
-        0,
-        &[
-            ("journal", Some(journal.as_bytes())),
-            ("names", names.as_deref()),
-            ("html", page.as_deref()),
-            ("schedule", schedule.as_deref().map(str::as_bytes)),
-        ],
-    )
+/// Reads the names beside a journal.
+fn names_beside(journal: &Path) -> Option<Sidecar> {
+    let text = fs::read_to_string(journal.with_extension("names")).ok()?;
+    Sidecar::read(&text).ok()
+}
+
+/// Gives the channels of a schedule the names that those of the run have: some are read from the
+/// sources, once the run has ended.
+fn name_channels(schedule: &mut Schedule, names: &Sidecar) {
+    for (number, name) in &names.channels {
+        let number = *number as u32;
+        let is_named = schedule.channels.iter().any(|(other, _)| *other == number);
+        if !is_named {
+            schedule.channels.push((number, name.clone()));
+        }
+    }
+}
+
+/// The files of a run, of which this is the journal.
+struct RunFiles<'a> {
+    journal: &'a Path,
+    schedule: &'a Schedule,
+    /// Whether a replay follows the schedule.
+    is_followed: bool,
+}
+
+impl RunFiles<'_> {
+    /// Replaces the files of a test, of which this is the journal, by these, with the race of the
+    /// run. Returns the journal that was written.
+    fn put(&self, path: &Path, found: &FailingOrder) -> io::Result<PathBuf> {
+        let journal = fs::read_to_string(self.journal)?;
+        let (mut names, mut page) = (self.beside("names")?, self.beside("html")?);
+        let of_run = (self.schedule, found.failure.is_met());
+        let text = names.as_deref().and_then(|it| std::str::from_utf8(it).ok());
+        let with_race = text.and_then(|text| found.race.beside((path, &journal), text, of_run));
+        if let Some(with_race) = with_race {
+            names = Some(with_race.names.into_bytes());
+            page = with_race.page.or(page);
+        }
+        let schedule = self
+            .is_followed
+            .then(|| self.schedule.text_beside(&journal));
+        files::replace(
+            path,
+            0,
+            &[
+                ("journal", Some(journal.as_bytes())),
+                ("names", names.as_deref()),
+                ("html", page.as_deref()),
+                ("schedule", schedule.as_deref().map(str::as_bytes)),
+            ],
+        )
+    }
+
+    /// Reads a file beside the journal, if it is there.
+    fn beside(&self, extension: &str) -> io::Result<Option<Vec<u8>>> {
+        match fs::read(self.journal.with_extension(extension)) {
+            Err(error) if error.kind() == io::ErrorKind::NotFound => Ok(None),
+            read => read.map(Some),
+        }
+    }
 }
 
 /// Returns lines in which the files of a test are those of this journal, which may be another one
@@ -231,4 +290,19 @@ pub(super) fn journal_in(folder: &Path) -> Option<PathBuf> {
         }
     }
     None
+}
+
+#[cfg(test)]
+mod tests {
+    use super::*;
+
+    #[test]
+    fn channels_have_the_names_of_the_run_where_the_test_gave_none() {
+        let mut schedule = Schedule::new(String::new());
+        schedule.channels = vec![(1, "given".to_string())];
+        let names = r#"{"channels": {"0": "config", "1": "other"}}"#;
+        name_channels(&mut schedule, &Sidecar::read(names).unwrap());
+        let wanted = [(1, "given".to_string()), (0, "config".to_string())];
+        assert_eq!(schedule.channels, wanted);
+    }
 }

@@ -61,6 +61,15 @@ pub(super) fn explore(name: &str) {
     }
 }
 
+/// Does this work on as many threads, each of which is told its number, until all have ended.
+pub(super) fn on_threads(count: usize, work: &(dyn Fn(usize) + Sync)) {
+    thread::scope(|scope| {
+        for number in 0..count {
+            scope.spawn(move || work(number));
+        }
+    });
+}
+
 /// Returns the path by which the harness knows the test that this thread runs.
 fn path_of_test(name: &str) -> Option<String> {
     let thread = thread::current();
@@ -181,11 +190,7 @@ impl Session {
         // The first run says what the others need to know.
         self.step(0);
         self.is_first.store(false, Ordering::Relaxed);
-        thread::scope(|scope| {
-            for job in 0..self.jobs() {
-                scope.spawn(move || while self.step(job) {});
-            }
-        });
+        on_threads(self.jobs(), &|job| while self.step(job) {});
         self.progress.clear();
         let mut found = lock(&self.found).take();
         if lock(&self.counts).runs == 0 {

@@ -1,7 +1,7 @@
 //! A failing order, brought to fewer switches by a search near it.
 
 use super::process::{By, FailureMark, Ran, TIME_OF_RUN, TestProgram};
-use crate::run::listed::IntoList;
+use crate::run::listed::{IntoList, PushAll};
 use crate::schedule::explore::{Order, OrderKind, Schedule, Step, Turn};
 use std::fs;
 use std::time::{Duration, Instant};
@@ -107,8 +107,9 @@ fn nearer(steps: &[Step]) -> Vec<Vec<Step>> {
     let switches = numbered.filter(|(_, step)| step.turn == Turn::Switch);
     let switches: Vec<usize> = switches.map(|(at, _)| at).listed();
     let ends = switches[1..].iter().map(|end| steps[..*end].to_vec());
-    let without = switches.iter().filter_map(|at| without_switch(steps, *at));
-    ends.chain(without).listed()
+    let mut nearer = ends.listed();
+    nearer.push_all(switches.iter().filter_map(|at| without_switch(steps, *at)));
+    nearer
 }
 
 /// Returns the steps in another order, where what the one does next who is held at this step comes

@@ -2,15 +2,15 @@
 
 use super::process::{By, FailureMark, Ran, TIME_OF_RUN, first_words};
 use super::search::Task;
-use super::session::Session;
+use super::session::{Session, on_threads};
 use crate::channels::lock::lock;
 use crate::channels::standard_error::say;
 use crate::schedule::explore::{Order, OrderKind};
 use std::fmt;
+use std::fs;
 use std::sync::PoisonError;
 use std::sync::atomic::{AtomicUsize, Ordering};
 use std::time::Duration;
-use std::{fs, thread};
 
 /// How often the journal and the schedule are tried, and how often where these first tries agree.
 const TRIES: usize = 10;
@@ -90,15 +90,10 @@ impl Session {
             return None;
         }
         let (next, all) = (AtomicUsize::new(0), std::sync::Mutex::new(Vec::new()));
-        thread::scope(|scope| {
-            for job in 0..self.jobs().min(FIRST_TRIES) {
-                let (next, all) = (&next, &all);
-                scope.spawn(move || {
-                    while next.fetch_add(1, Ordering::Relaxed) < FIRST_TRIES {
-                        let one = self.one_try(by, failure, job);
-                        lock(all).push(one);
-                    }
-                });
+        on_threads(self.jobs().min(FIRST_TRIES), &|job| {
+            while next.fetch_add(1, Ordering::Relaxed) < FIRST_TRIES {
+                let one = self.one_try(by, failure, job);
+                lock(&all).push(one);
             }
         });
         let all = all.into_inner().unwrap_or_else(PoisonError::into_inner);

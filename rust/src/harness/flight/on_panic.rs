@@ -2,7 +2,7 @@
 
 use crate::channels::lock::try_lock_for;
 use crate::channels::recorder::{DumpRequest, NotedPanic, PATIENCE, Shared};
-use crate::run::listed::IntoList;
+use crate::run::listed::{IntoList, Keep};
 use std::panic::PanicHookInfo;
 use std::sync::{Arc, Mutex, Weak};
 use std::thread;
@@ -16,7 +16,7 @@ static FOLLOWING: Mutex<Vec<Weak<Shared>>> = Mutex::new(Vec::new());
 /// Writes a dump of this recorder at each panic from now on.
 pub(super) fn follow(recorder: &Arc<Shared>) {
     let mut following = crate::channels::lock::lock(&FOLLOWING);
-    following.retain(|other| other.strong_count() > 0);
+    following.keep(|other| other.strong_count() > 0);
     if !following
         .iter()
         .any(|other| other.as_ptr() == Arc::as_ptr(recorder))
@@ -40,7 +40,7 @@ pub(in crate::harness) fn dump_on_panic(info: &PanicHookInfo<'_>, is_last: bool)
     let is_main = thread::current().name() == Some("main");
     if is_main || is_last || cfg!(panic = "abort") {
         for dump in dumps {
-            let _ = dump.0.recv_timeout(LONGEST);
+            dump.0.is_closed_within(LONGEST);
         }
     }
 }

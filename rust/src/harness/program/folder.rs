@@ -1,6 +1,5 @@
 //! The folder `target` of the build that a program is from.
 
-use crate::run::listed::IntoList;
 use std::env;
 use std::path::{Path, PathBuf};
 
@@ -22,12 +21,12 @@ pub(super) fn of_build(program: &Path, here: &Path) -> PathBuf {
     let of_program = || marked_above(program);
     let of_libraries = || {
         // WebAssembly has no lists of folders, and to split one would panic.
-        let names = LIBRARY_PATHS
-            .into_iter()
-            .filter(|_| !cfg!(target_family = "wasm"));
-        let paths = names.filter_map(env::var_os);
-        let mut folders = paths.flat_map(|paths| env::split_paths(&paths).listed());
-        folders.find_map(|folder| marked_above(&folder.join("program")))
+        let is_any = !cfg!(target_family = "wasm");
+        let names = LIBRARY_PATHS.iter().filter(|_| is_any);
+        names.filter_map(env::var_os).find_map(|paths| {
+            let mut folders = env::split_paths(&paths);
+            folders.find_map(|folder| marked_above(&folder.join("program")))
+        })
     };
     // A relative one is meant from the folder in which cargo runs, and that may be one above.
     let named = env::var_os("CARGO_TARGET_DIR").map_or_else(|| "target".into(), PathBuf::from);

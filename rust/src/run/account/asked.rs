@@ -223,7 +223,8 @@ fn sender_len(context: &Context<'_>, place: u64, entry: &RunEntry) -> Because {
         "its last receive",
     );
     let left = unread.get(overwritten as usize);
-    let left = left.map(|place| (*place, Role::Sent, first));
+    let mut calls = vec![last];
+    calls.push_all(left.map(|place| (*place, Role::Sent, first)));
     Because {
         text: format!(
             "{channel} has {} left that {} has not received{}",
@@ -231,7 +232,7 @@ fn sender_len(context: &Context<'_>, place: u64, entry: &RunEntry) -> Because {
             naming.receiver(entry.channel, *slowest).full,
             overwritten_before(context, entry.channel, overwritten),
         ),
-        calls: in_order([last].into_iter().chain(left).listed()),
+        calls: in_order(calls),
     }
 }
 

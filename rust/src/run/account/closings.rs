@@ -191,7 +191,8 @@ fn first_told(context: &Context<'_>, place: u64, after: &LateReader) -> FactStep
         0 => None,
         count => Some(after_more(context, after.channel, count)),
     };
-    let said: Vec<_> = name.into_iter().chain(read_on).listed();
+    let mut said = name.into_iter().listed();
+    said.push_all(read_on);
     context.step(
         place,
         Role::Told,

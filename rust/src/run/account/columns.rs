@@ -1,5 +1,7 @@
 //! The columns of the steps of a fact.
 
+use crate::run::listed::IntoList;
+
 /// How many spaces are after each column but the last.
 const SPACES: [usize; 4] = [3, 3, 2, 3];
 
@@ -12,12 +14,12 @@ fn length(text: &str) -> usize {
 }
 
 /// Returns the lines of these steps. A column that is empty in each of them has no width.
-pub(super) fn aligned<'a>(steps: impl Iterator<Item = &'a Cells> + Clone) -> Vec<String> {
+pub(super) fn aligned(steps: &[&Cells]) -> Vec<String> {
     let mut widths = [0; 5];
-    for cells in steps.clone() {
+    for cells in steps {
         widths = std::array::from_fn(|column| widths[column].max(length(&cells[column])));
     }
-    steps.map(|cells| line(cells, &widths)).collect()
+    steps.iter().map(|cells| line(cells, &widths)).listed()
 }
 
 /// Returns the columns of a step side by side.
@@ -48,8 +50,8 @@ mod tests {
             "  call 3    é.send(1)   ticker   a.rs:15   b",
             "  call 17   told        auditor",
         ];
-        assert_eq!(aligned(steps.iter()), wanted);
+        assert_eq!(aligned(&steps.each_ref()), wanted);
         let step = ["call 1", "told", "x", "", "d"].map(String::from);
-        assert_eq!(aligned([step].iter()), ["  call 1   told   x  d"]);
+        assert_eq!(aligned(&[&step]), ["  call 1   told   x  d"]);
     }
 }

@@ -3,9 +3,9 @@
 use super::columns::{self, Cells};
 use super::finding::orders;
 use super::times::CallTime;
-use crate::run::listed::PushAll;
+use crate::run::listed::{IntoList, PushAll};
 use crate::run::sidecar::{Json, SourceLocation};
-use std::iter;
+use std::{iter, ptr};
 
 /// What a step is to a fact.
 #[derive(Clone, Copy, Debug, PartialEq, Eq)]
@@ -24,6 +24,8 @@ pub(crate) enum Role {
     Look,
     /// The last change of a watch.
     Change,
+    /// The call that marked a value of a watch as seen, or as changed.
+    Mark,
     /// The drop of the last sender, or of the last receiver.
     Close,
     /// The panic of another thread or task.
@@ -46,6 +48,7 @@ impl Role {
             Role::End => ("end", "the end of the run"),
             Role::Look => ("look", "its last look"),
             Role::Change => ("change", "the last change"),
+            Role::Mark => ("mark", "the call that marked it"),
             Role::Close => ("close", "the drop that closed it"),
             Role::Panic => ("panic", "the panic"),
             Role::Sent => ("sent", "the send"),
@@ -200,12 +203,13 @@ impl Fact {
         self.text_without(&[])
     }
 
-    /// Returns its lines without those of the steps at these places in the run.
-    pub(crate) fn text_without(&self, places: &[u64]) -> Vec<String> {
+    /// Returns its lines without those of these steps.
+    pub(crate) fn text_without(&self, shown: &[&FactStep]) -> Vec<String> {
         let mut text = vec![self.head.clone()];
         let steps = self.steps.iter();
-        let others = steps.filter(|step| !places.contains(&step.place));
-        text.push_all(columns::aligned(others.map(|step| &step.cells)));
+        // Two steps may have one place: a call, and the wait that begins after it.
+        let others = steps.filter(|step| !shown.iter().any(|it| ptr::eq(*it, *step)));
+        text.push_all(columns::aligned(&others.map(|step| &step.cells).listed()));
         text.push_all(self.last.clone());
         text.push_all(self.late.iter().map(|late| format!("  late: {late}")));
         text

@@ -136,12 +136,13 @@ impl Failure {
     /// test, then the others, the latest first.
     pub(super) fn told_last(&self, history: &History) -> Vec<u64> {
         let others = (0..self.all.len()).rev().filter(|at| Some(*at) != self.end);
-        let failures = self.end.into_iter().chain(others);
-        let told = failures.filter_map(|at| {
+        let last_told = |at: usize| {
             let at = &self.all[at];
             history.last_told(at.actor?, at.place)
-        });
-        told.listed()
+        };
+        let mut told = self.end.and_then(last_told).into_iter().listed();
+        told.push_all(others.filter_map(last_told));
+        told
     }
 }
 

@@ -5,7 +5,7 @@ use super::closings::Closed;
 use super::losses::Lost;
 use super::panicked::Panicked;
 use super::silence::Silence;
-use super::watches::Overlooked;
+use super::watches::{Overlooked, Unreceived};
 use super::{Context, Fact, MOST_TOLD, asked, closings, losses, panicked, silence, watches};
 use crate::run::listed::{IntoList, PushAll};
 
@@ -79,22 +79,23 @@ impl Finding {
         // A panic tells of the channel that it closed.
         let closings = closings.filter(|it| Some(it.channel()) != closed);
         let losses = losses::found(context).into_iter();
-        let silences = silence::found(context).into_iter();
+        let silences = silence::found(context);
         let asked = asked::found(context);
         let watches = watches::found(context).into_iter();
         let watches = watches.filter(|it| {
-            let mut asked = asked.iter();
-            !asked.any(|asked| asked.tells_of(context, it.receiver()))
+            let (mut asked, mut silences) = (asked.iter(), silences.iter());
+            let is_told = it.what == Unreceived::Looked
+                && it.count == 1
+                && silences.any(|silence| silence.tells_of_mark(context, it.receiver()));
+            !is_told && !asked.any(|asked| asked.tells_of(context, it.receiver()))
         });
-        let watches: Vec<_> = watches.listed();
-        let panics = panicked.into_iter().map(Finding::Panic);
-        let all: Vec<_> = panics
-            .chain(losses.map(Finding::Loss))
-            .chain(silences.map(Finding::Silence))
-            .chain(asked.map(Finding::Answered))
-            .chain(watches.into_iter().map(Finding::Overlooked))
-            .chain(closings.map(Finding::Closing))
-            .listed();
+        let watches: Vec<_> = watches.map(Finding::Overlooked).listed();
+        let mut all = panicked.into_iter().map(Finding::Panic).listed();
+        all.push_all(losses.map(Finding::Loss));
+        all.push_all(silences.into_iter().map(Finding::Silence));
+        all.push_all(asked.map(Finding::Answered));
+        all.push_all(watches);
+        all.push_all(closings.map(Finding::Closing));
         in_order(all)
     }
 

@@ -23,6 +23,8 @@ pub(super) struct HandleHistory {
     pub(super) learned: u64,
     // The number of the last change that it learned of, or that was there before it.
     learned_of: u64,
+    /// The changes of a watch that it marked as seen by `mark_unchanged`, and never learned of.
+    pub(super) dismissed: Dismissed,
     /// Whether it asked for a new version of a watch.
     pub(super) awaits: bool,
     /// Whether it looked at the version of a watch with which the window begins, while that was the
@@ -30,6 +32,28 @@ pub(super) struct HandleHistory {
     pub(super) looked_first: bool,
     /// Whether it marked that version then.
     pub(super) marked_first: bool,
+}
+
+/// The changes of a watch that a receiver marked as seen by `mark_unchanged`, without a look: it
+/// isn't told by that call that there is one.
+#[derive(Clone, Copy, Default)]
+pub(super) struct Dismissed {
+    pub(super) count: u64,
+    /// The last of them.
+    pub(super) last: Option<Dismissal>,
+    // What was the last one before it.
+    before: Option<Dismissal>,
+}
+
+/// A change that a receiver marked as seen without a look.
+#[derive(Clone, Copy)]
+pub(super) struct Dismissal {
+    /// The place of the change.
+    pub(super) change: u64,
+    /// The place of the call that marked it.
+    pub(super) mark: u64,
+    // The number of the change.
+    number: u64,
 }
 
 /// What happened on a channel.
@@ -212,28 +236,58 @@ impl HandleHistory {
             last_user: None,
             learned: 0,
             learned_of,
+            dismissed: Dismissed::default(),
             awaits: false,
             looked_first: false,
             marked_first: false,
         }
     }
 
-    /// Notes that a receiver of a watch learned of the current change, if it did.
-    fn note_learned(&mut self, entry: &RunEntry, changes: u64) {
+    /// Notes that a receiver of a watch learned of the current change, if it did, or that it only
+    /// marked it. `change` has the place of the change and its number.
+    fn note_learned(&mut self, place: u64, entry: &RunEntry, (change, number): (u64, u64)) {
         let has_learned = match entry.reply {
             Reply::Value(_) | Reply::Done => entry.word != Operation::MarkChanged,
             Reply::Flag(flag) => entry.word == Operation::HasChanged && flag != 0,
             _ => false,
         };
-        if has_learned && self.learned_of < changes {
-            self.learned_of = changes;
-            self.learned += 1;
+        if !has_learned {
+            return;
+        }
+        let is_new = self.learned_of < number;
+        self.learned += u64::from(is_new);
+        self.learned_of = self.learned_of.max(number);
+        if entry.word != Operation::MarkUnchanged {
+            self.dismissed.take_back(number);
+        } else if is_new {
+            let mark = place;
+            self.dismissed.add(Dismissal {
+                change,
+                mark,
+                number,
+            });
         }
     }
 
     /// Whether the handle was there at a place.
     pub(super) fn is_alive_at(&self, place: u64) -> bool {
         self.made <= place && self.dropped.is_none_or(|(dropped, _)| dropped > place)
+    }
+}
+
+impl Dismissed {
+    fn add(&mut self, dismissal: Dismissal) {
+        self.count += 1;
+        self.before = self.last.replace(dismissal);
+    }
+
+    /// Takes the change with this number back, which is the current one: it was looked at after the
+    /// mark.
+    fn take_back(&mut self, number: u64) {
+        if self.last.is_some_and(|last| last.number == number) {
+            self.count -= 1;
+            self.last = self.before.take();
+        }
     }
 }
 
@@ -281,11 +335,11 @@ impl ChannelHistory {
         self.note_unreached(place, entry);
         let is_first = !self.is_changed;
         let is_receive = self.is_receive(entry);
-        let changes = self.changes;
+        let (changes, last_sent) = (self.changes, self.last_sent);
         if let Some(handle) = self.handles.get_mut(entry.handle as usize) {
             let is_drop = entry.word == Operation::Drop;
             handle.last_use = if is_drop { handle.last_use } else { place };
-            handle.note_learned(entry, changes);
+            handle.note_learned(place, entry, (last_sent, changes));
             if is_receive {
                 handle.last_user = Some(entry.actor);
                 handle.awaits |= entry.word.is(CallSet::AWAITS);

@@ -2,7 +2,7 @@
 
 use super::rest::KindCount;
 use super::window::WindowSaid;
-use super::{Account, Fact, FactStep, Failed, PendingTask, Rest, WaitAtEnd};
+use super::{Account, Fact, FactStep, Failed, LeftSaid, PendingTask, RaceSaid, Rest, WaitAtEnd};
 use crate::run::journal::{Loss, LossEnd};
 use crate::run::listed::{IntoList, PushAll};
 use crate::run::sidecar::{Json, SourceLocation, push_string};
@@ -30,6 +30,12 @@ impl Account {
         push_member(&mut out, "channels", &Json::number(self.channels));
         if let Some(window) = &self.window {
             push_window(&mut out, window);
+        }
+        if let Some(left) = &self.left {
+            push_member(&mut out, "replay", &replay(left));
+        }
+        if let Some(race) = &self.race {
+            push_member(&mut out, "race", &race_of(race));
         }
         let unknown = self.unknown.iter().map(|line| Json::text(line));
         push_member(&mut out, "unknown", &Json::List(unknown.listed()));
@@ -99,6 +105,28 @@ fn location_of(location: Option<&SourceLocation>) -> Json {
     })
 }
 
+fn replay(left: &LeftSaid) -> Json {
+    Json::object(vec![
+        ("file", Json::text(&left.file)),
+        ("place", optional_number(left.place)),
+        ("text", Json::text(&left.text)),
+    ])
+}
+
+fn race_of(race: &RaceSaid) -> Json {
+    let [first, then] = race.steps.each_ref().map(|(text, place)| {
+        Json::object(vec![
+            ("text", Json::text(text)),
+            ("place", optional_number(*place)),
+        ])
+    });
+    Json::object(vec![
+        ("text", Json::text(&race.text)),
+        ("first", first),
+        ("then", then),
+    ])
+}
+
 fn failed(failed: &Failed) -> Json {
     Json::object(vec![
         ("place", Json::number(failed.place)),
@@ -159,6 +187,7 @@ fn rest(rest: &Rest) -> Json {
         ("after", Json::number(rest.after)),
         ("losses", count(&rest.losses, "receivers", "values")),
         ("unlearned", count(&rest.unlearned, "receivers", "changes")),
+        ("unlooked", count(&rest.unlooked, "receivers", "changes")),
         ("unmarked", count(&rest.unmarked, "receivers", "changes")),
         ("closings", Json::number(rest.closings.of)),
         ("text", optional_text(rest.text().as_deref())),

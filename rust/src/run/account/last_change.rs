@@ -5,7 +5,7 @@ use super::Context;
 use super::fact::{FactStep, Role};
 use super::silence::last_sent;
 use crate::run::journal::Spec;
-use crate::run::listed::IntoList;
+use crate::run::listed::{IntoList, PushAll};
 use crate::run::operation::Operation;
 use crate::run::reply::Reply;
 use crate::run::sidecar::WaitingCall;
@@ -31,7 +31,9 @@ pub(super) fn steps(context: &Context<'_>, call: &WaitingCall, until: u64) -> Ve
         let said = "told nobody: its closure returned false".to_string();
         context.step(place, Role::Change, call, said)
     });
-    changed.into_iter().chain(quiet).listed()
+    let mut steps = changed.into_iter().listed();
+    steps.push_all(quiet);
+    steps
 }
 
 /// Returns the last `send_if_modified` of a channel between two places whose closure returned

@@ -380,8 +380,8 @@ impl Reasons<'_> {
             return None;
         }
         let sends = self.sends((poll.before, poll.last()));
-        let mut polls = self.seen.tasks.iter().flat_map(|task| &task.polls);
-        let is_alone = polls.all(|other| other.thread == poll.thread);
+        let is_here = |task: &SeenTask| task.polls.iter().all(|it| it.thread == poll.thread);
+        let is_alone = self.seen.tasks.iter().all(is_here);
         self.context.lateness.note(poll.before, poll.last());
         let task = &self.seen.tasks[sender];
         let mut lines = vec![self.texts.burst(task, &sends, is_alone)];

@@ -123,9 +123,12 @@ pub(super) fn receivers_at(context: &Context<'_>, channel: u32, at: u64) -> Vec<
 
 /// Returns the place of the last drop of a receiver before a place.
 pub(super) fn last_drop(context: &Context<'_>, channel: u32, at: u64) -> Option<u64> {
-    let handles = context.history.channel(channel).handles();
-    let dropped = handles.filter_map(|(_, it)| it.dropped.filter(|_| it.is_receiver));
-    let places = dropped.map(|(place, _)| place);
-    let lead = context.history.lead;
-    places.filter(|place| *place < at && *place > lead).max()
+    let mut last = context.history.lead;
+    for (_, handle) in context.history.channel(channel).handles() {
+        match handle.dropped {
+            Some((place, _)) if handle.is_receiver && place < at => last = last.max(place),
+            _ => {}
+        }
+    }
+    (last > context.history.lead).then_some(last)
 }

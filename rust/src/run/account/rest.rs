@@ -50,6 +50,7 @@ pub(crate) struct Rest {
     pub(crate) after: usize,
     pub(super) losses: KindCount,
     pub(super) unlearned: KindCount,
+    pub(super) unlooked: KindCount,
     pub(super) unmarked: KindCount,
     pub(super) closings: KindCount,
     panics: KindCount,
@@ -78,6 +79,9 @@ impl Rest {
                 Finding::Overlooked(it) if it.what == Unreceived::Learned => {
                     (&mut rest.unlearned, it.count)
                 }
+                Finding::Overlooked(it) if it.what == Unreceived::Looked => {
+                    (&mut rest.unlooked, it.count)
+                }
                 Finding::Overlooked(it) => (&mut rest.unmarked, it.count),
             };
             count.add(is_told, sum);
@@ -90,6 +94,7 @@ impl Rest {
         let Rest {
             losses,
             unlearned,
+            unlooked,
             unmarked,
             closings,
             panics,
@@ -119,6 +124,11 @@ impl Rest {
                 "{} never learned of {changes}",
                 unlearned.readers()
             ));
+        }
+        if unlooked.of > 0 {
+            let changes = counted(unlooked.sum, "change");
+            let readers = unlooked.readers();
+            parts.push(format!("{readers} marked {changes} as seen without a look"));
         }
         if unmarked.of > 0 {
             let changes = counted(unmarked.sum, "change");

@@ -6,6 +6,7 @@ use super::fact::{Fact, FactStep, Role};
 use super::failure::FailureAt;
 use super::finding::orders;
 use super::history::Unreached;
+use super::marked::Marked;
 use super::nothing_came::NothingCame;
 use super::reading::last_drop;
 use super::window::number_in_snapshots;
@@ -50,6 +51,20 @@ impl Silence {
 }
 
 impl Silence {
+    /// Whether it tells that a receiver waits for a change which it marked as seen without a look.
+    pub(super) fn tells_of_mark(&self, context: &Context<'_>, receiver: (u32, u32)) -> bool {
+        let call = match self {
+            Silence::Waits(index) => waits::at_failure(context, *index),
+            Silence::Dropped(index) => &context.names.dropped_waits[*index],
+            _ => return false,
+        };
+        // Whose wait it is comes first: to look for a mark is to pass over the run.
+        of_wait(call) == receiver && {
+            let until = before_failure(context, end_of(context, call));
+            Marked::of(context, call, until).is_some_and(|it| it.is_unseen)
+        }
+    }
+
     /// The channel of which it tells that sends reached nobody.
     fn tells_unreached(&self, context: &Context<'_>) -> Option<u32> {
         let (channel, handle) = match self {
@@ -85,16 +100,11 @@ pub(super) fn found(context: &Context<'_>) -> Vec<Silence> {
     let other = other.filter(|place| value::is_explained(context, *place));
     let value = value.or(other.map(|place| (place, false)));
     let is_named = context.failure.names_last_call();
-    let empty = empty
-        .map(|place| Silence::Empty(place, is_named))
-        .into_iter();
-    let value = value
-        .into_iter()
-        .map(|(place, is_why)| Silence::Value(place, is_why));
-    let dropped = dropped(context).into_iter().map(Silence::Dropped);
-    let waits = waits_of_failure(context);
-    let found = dropped.chain(waits).chain(empty).chain(value);
-    let mut found: Vec<_> = found.listed();
+    let mut found = vec![];
+    found.push_all(dropped(context).map(Silence::Dropped));
+    found.push_all(waits_of_failure(context));
+    found.push_all(empty.map(|place| Silence::Empty(place, is_named)));
+    found.push_all(value.map(|(place, is_why)| Silence::Value(place, is_why)));
     let told: Vec<_> = found
         .iter()
         .filter_map(|it| it.tells_unreached(context))
@@ -120,10 +130,13 @@ fn waits_of_failure(context: &Context<'_>) -> impl Iterator<Item = Silence> {
         Some(_) => has_timed_out(context),
     };
     let names = context.names;
-    let calls = names.waiting.iter().chain(&names.waited_at_failure);
-    let calls = calls.enumerate();
-    let calls = calls.filter(|(_, call)| is_why && call.channel < channels);
-    let mut calls: Vec<_> = calls.map(|(index, call)| (call.since, index)).listed();
+    let waits = names.waiting.iter().chain(&names.waited_at_failure);
+    let mut calls = vec![];
+    for (index, call) in waits.enumerate() {
+        if is_why && call.channel < channels {
+            calls.push((call.since, index));
+        }
+    }
     sort_by(&mut calls, |one, other| one.cmp(other));
     calls.into_iter().map(|(_, index)| Silence::Waits(index))
 }
@@ -171,16 +184,10 @@ fn waited(context: &Context<'_>, call: &WaitingCall) -> Fact {
     let naming = context.naming;
     let (channel, handle) = (call.channel as u32, call.handle as u32);
     let since = context.place_of(call.since);
-    let until = call
-        .until
-        .map_or(context.run.len(), |until| context.place_of(until));
+    let until = end_of(context, call);
     let method = naming.method(channel, &visible::name(&call.call));
     let who = naming.actor(call.actor);
-    // What unwinding did after the failure isn't why it waited.
-    let until = context
-        .failure
-        .end()
-        .map_or(until, |end| until.min(end.place));
+    let until = before_failure(context, until);
     let why = why_it_waits(context, call, until);
     // What it does, and what it did from its beginning on.
     let (verb, did) = match call.until {
@@ -238,6 +245,18 @@ fn waited(context: &Context<'_>, call: &WaitingCall) -> Fact {
     }
 }
 
+/// Returns the place at which a call had waited, or to which it waits.
+fn end_of(context: &Context<'_>, call: &WaitingCall) -> u64 {
+    let until = call.until.map(|until| context.place_of(until));
+    until.unwrap_or(context.run.len())
+}
+
+/// What unwinding did after the failure isn't why a call waited.
+fn before_failure(context: &Context<'_>, until: u64) -> u64 {
+    let end = context.failure.end();
+    end.map_or(until, |end| until.min(end.place))
+}
+
 /// Why a call waits, or waited until it was woken or dropped.
 struct WhyItWaits {
     /// Whether it was woken, and has not gone on since.
@@ -273,12 +292,15 @@ fn why_it_waits(context: &Context<'_>, call: &WaitingCall, until: u64) -> WhyItW
     }
     let receiver = (call.channel as u32, call.handle as u32);
     let why = NothingCame::of(context, receiver, until);
-    let steps = why.steps(context);
-    let steps = steps.chain(last_change::steps(context, call, until));
+    let marked = Marked::of(context, call, until);
+    let by_mark = marked.as_ref().map(|it| it.text(context));
+    let mut steps = why.steps(context).listed();
+    steps.push_all(last_change::steps(context, call, until));
+    steps.push_all(marked.iter().map(|it| it.step(context)));
     WhyItWaits {
         is_woken: false,
-        text: why.text(context),
-        steps: steps.listed(),
+        text: why.text(context) + by_mark.as_deref().unwrap_or_default(),
+        steps,
         last: who_could_end(context, call, until),
     }
 }

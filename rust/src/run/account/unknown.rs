@@ -2,7 +2,7 @@
 
 use super::{Context, visible};
 use crate::core::source::rw_journal::MOST_ENTRIES;
-use crate::run::listed::IntoList;
+use crate::run::listed::{IntoList, PushAll};
 
 /// Returns why not all of the run is known, one reason for each line.
 pub(super) fn lines(context: &Context<'_>) -> Vec<String> {
@@ -22,10 +22,11 @@ pub(super) fn lines(context: &Context<'_>) -> Vec<String> {
             "were locked by the thread that ended the process",
         ),
     ];
-    let channels = channels.into_iter().filter(|(count, _)| *count > 0);
-    let channels = channels.map(|(count, what)| of_channels(count, what));
-    let before = before_window(context).into_iter();
-    before.chain(end_of_calls(context)).chain(channels).listed()
+    let channels = channels.iter().filter(|(count, _)| *count > 0);
+    let mut lines = before_window(context).into_iter().listed();
+    lines.push_all(end_of_calls(context));
+    lines.push_all(channels.map(|(count, what)| of_channels(*count, what)));
+    lines
 }
 
 /// Says how many calls a window leaves out.

@@ -7,7 +7,7 @@ use super::reading::{self, ReadUpTo};
 use super::silence::last_sent;
 use super::{Context, visible};
 use crate::run::journal::{RunEntry, Spec};
-use crate::run::listed::IntoList;
+use crate::run::listed::{IntoList, PushAll};
 use crate::run::operation::Operation;
 use crate::run::reply::Reply;
 use crate::run::sidecar::Json;
@@ -30,7 +30,10 @@ pub(super) fn fact(context: &Context<'_>, place: u64) -> Fact {
     let Reply::Value(value) = entry.reply else {
         unreachable!("it is the call that returned a value");
     };
-    let receiver = naming.receiver(entry.channel, entry.handle);
+    let is_receiver = context
+        .history
+        .channel(entry.channel)
+        .is_receiver(entry.handle);
     let sent = sent_at(context, entry.channel, (value, place));
     let by = match sent {
         Some(sent) => {
@@ -42,27 +45,38 @@ pub(super) fn fact(context: &Context<'_>, place: u64) -> Fact {
     let why = why_this(context, place, &entry, sent);
     let returned = format!("returned {}", naming.reply(&entry));
     let of_sent = sent.map(|sent| (sent, Role::Sent, "sent it"));
-    let calls = why.before_send.into_iter().chain(of_sent);
-    let calls = calls.chain(why.behind_send);
+    let mut calls = why.before_send;
+    calls.push_all(of_sent);
+    calls.push_all(why.behind_send);
+    let calls = calls.into_iter();
     let steps = calls.map(|(place, role, said)| context.call_step(place, role, said.to_string()));
     let mut steps: Vec<_> = steps.listed();
     let sent_step = steps.iter().rposition(|step| step.role == Role::Sent);
     steps.push(context.call_step(place, Role::Told, returned));
+    // The sender of a watch looks at its value, too.
+    let (of, full, short) = if is_receiver {
+        let called = naming.receiver(entry.channel, entry.handle);
+        ("receiver", called.full, called.short)
+    } else {
+        let called = naming.handle(entry.channel, entry.handle);
+        ("handle", called.clone(), called)
+    };
     let members = vec![
         ("channel", Json::number(entry.channel)),
-        ("receiver", Json::number(entry.handle)),
-        ("name", Json::text(&receiver.short)),
+        (of, Json::number(entry.handle)),
+        ("name", Json::text(&short)),
         ("value", Json::number(value)),
     ];
     let head = format!(
-        "{} got {} of {}, {by}{}",
-        receiver.full,
+        "{full} got {} of {}, {by}{}",
         naming.reply(&entry),
         naming.channel(entry.channel),
         why.text,
     );
+    let mut sights = vec![steps.len() - 1];
+    sights.push_all(sent_step);
     Fact {
-        sights: std::iter::once(steps.len() - 1).chain(sent_step).listed(),
+        sights,
         ..Fact::new("value", members, head, steps, place)
     }
 }
@@ -96,45 +110,81 @@ fn sent_at(context: &Context<'_>, channel: u32, (value, returned): (u64, u64)) -
 }
 
 /// Of a watch: nobody has changed it since, and `changed` may have told of a value once more that
-/// was looked at before.
+/// was looked at before, or marked as changed.
 fn why_of_watch(context: &Context<'_>, place: u64, entry: &RunEntry, sent: Option<u64>) -> WhyThis {
     let last = last_sent(context, entry.channel, place);
     if last != sent.unwrap_or(0) {
         return WhyThis::default();
     }
-    let told_again = told_again(context, place, entry).filter(|_| sent.is_some());
-    let Some((look, changed)) = told_again else {
-        return WhyThis {
+    let told = told_again(context, place, entry);
+    let told = told.filter(|it| sent.is_some() || it.is_unmarked);
+    told.map_or_else(
+        || WhyThis {
             text: UNCHANGED.to_string(),
             ..WhyThis::default()
+        },
+        |told| told.why(&context.naming.receiver(entry.channel, entry.handle).short),
+    )
+}
+
+/// A `changed` that returned for a change which the receiver knew, and is its last mark.
+struct ToldAgain {
+    /// The place of the look at the change, or of the `mark_changed`.
+    before: u64,
+    changed: u64,
+    /// Whether the receiver was marked as changed.
+    is_unmarked: bool,
+}
+
+impl ToldAgain {
+    /// Says why the receiver of this name got what it knew.
+    fn why(&self, name: &str) -> WhyThis {
+        let [before, changed] = [self.before, self.changed].map(visible::call);
+        let (text, before_it, again) = if self.is_unmarked {
+            (
+                format!(
+                    ": {name} was marked as changed ({before}), so `changed` returned without a change ({changed})"
+                ),
+                (Role::Mark, "marked it as changed"),
+                "returned without a change",
+            )
+        } else {
+            (
+                format!(
+                    ": {name} had looked at it ({before}), which marks nothing, so `changed` returned again ({changed})"
+                ),
+                (Role::Look, "looked at it, and marked nothing"),
+                "returned for the same change",
+            )
         };
-    };
-    let name = context.naming.receiver(entry.channel, entry.handle).short;
-    WhyThis {
-        text: format!(
-            ": {name} had looked at it ({}), which marks nothing, so `changed` returned again ({})",
-            visible::call(look),
-            visible::call(changed)
-        ),
-        before_send: vec![],
-        behind_send: vec![
-            (look, Role::Look, "looked at it, and marked nothing"),
-            (changed, Role::Told, "returned for the same change"),
-        ],
+        WhyThis {
+            text,
+            before_send: vec![],
+            behind_send: vec![
+                (self.before, before_it.0, before_it.1),
+                (self.changed, Role::Told, again),
+            ],
+        }
     }
 }
 
-/// Returns the look at a change, and the `changed` that told of it again and is the receiver's last
-/// mark before this place.
-fn told_again(context: &Context<'_>, place: u64, entry: &RunEntry) -> Option<(u64, u64)> {
+/// Returns the `changed` that told of the last change again, if it is the receiver's last mark
+/// before this place.
+fn told_again(context: &Context<'_>, place: u64, entry: &RunEntry) -> Option<ToldAgain> {
     let until = Marking::of(context, entry.channel, place - 1);
     let changed = until.seen(entry.handle).mark;
     if changed <= context.history.lead || context.run.entry(changed).word != Operation::Changed {
         return None;
     }
     let before = Marking::of(context, entry.channel, changed - 1);
-    let look = before.seen(entry.handle).look;
-    (look > before.last_change()).then_some((look, changed))
+    let seen = before.seen(entry.handle);
+    let is_unmarked = before.unmarked(entry.handle) == 0;
+    let before_it = if is_unmarked { seen.unmark } else { seen.look };
+    (before_it > before.last_change().max(context.history.lead)).then_some(ToldAgain {
+        before: before_it,
+        changed,
+        is_unmarked,
+    })
 }
 
 /// Of a broadcast: the receiver was created behind other values, or the capacity was rounded up.
@@ -189,4 +239,61 @@ fn early(context: &Context<'_>, receiver: (u32, u32), place: u64) -> Option<u64>
     }
     let sent = last_sent(context, receiver.0, made - 1);
     (sent > context.history.lead).then_some(sent)
+}
+
+#[cfg(test)]
+mod tests {
+    use crate::run::account::tests::{account, assert_told};
+
+    /// Names of a run whose actor 0 looks last at `a.rs:7`, and fails there.
+    fn names(calls: &str, since: usize) -> String {
+        format!(
+            r#"{{"locations": [["a.rs", 7, 1]], "calls": {{"0": [{calls}]}}, "channels": {{"0": "limit"}}, "handles": {{"0": {{"1": "seen"}}}},
+            "values": {{"0": {{"0": "10", "1": "20"}}}}, "panics": [{{"text": "", "location": 0, "actor": 0, "since": {since}}}]}}"#
+        )
+    }
+
+    #[test]
+    fn a_mark_as_changed_is_why_changed_returned_without_a_change() {
+        let entries = [
+            "0 0 send 0 1 = stored",
+            "0 0 update 1 = value 1",
+            "0 0 mark-changed 1 = done",
+            "0 0 changed 1 = done",
+            "0 0 borrow 1 = value 1",
+        ];
+        let names_of_five = names("null, null, null, null, 0", 5);
+        let found = account(&["watch 0"], &entries, &names_of_five);
+        let head = "`seen` got \"20\" of `limit`, which actor 0 sent (call 1): seen was marked as changed (call 3), so `changed` returned without a change (call 4)";
+        let below = [
+            "  call 1   limit.send(\"20\")       actor 0           sent it",
+            "  call 3   limit.mark_changed()   actor 0           marked it as changed",
+            "  call 4   limit.changed()        actor 0           returned without a change",
+            "  call 5   limit.borrow()         actor 0  a.rs:7   returned \"20\"",
+        ];
+        assert_told(&found, &[head], 0, &below);
+        // The first value is no change either.
+        let entries = [
+            "0 0 mark-changed 1 = done",
+            "0 0 changed 1 = done",
+            "0 0 borrow 1 = value 0",
+        ];
+        let found = account(&["watch 0"], &entries, &names("null, null, 0", 3));
+        let head = "`seen` got \"10\" of `limit`, with which it was created: seen was marked as changed (call 1), so `changed` returned without a change (call 2)";
+        assert_eq!(found.facts[0].head, head);
+    }
+
+    #[test]
+    fn a_sender_that_looked_is_called_one() {
+        let entries = ["0 0 send 0 1 = stored", "0 0 borrow 0 = value 1"];
+        let found = account(&["watch 0"], &entries, &names("null, 0", 2));
+        let head =
+            "sender 0 got \"20\" of `limit`, which actor 0 sent (call 1): it was not changed since";
+        assert_eq!(found.facts[0].head, head);
+        let json = found.to_json();
+        assert!(
+            json.contains(r#""channel": 0, "handle": 0, "name": "sender 0", "value": 1"#),
+            "{json}"
+        );
+    }
 }

@@ -3,6 +3,7 @@
 use crate::core::source::rw_lines::numeral;
 use crate::core::source::rw_navigator::Cond;
 use crate::core::source::rw_words::ReplyWord;
+use crate::run::listed::AllListed;
 use std::error::Error;
 use std::fmt;
 use std::str::FromStr;
@@ -149,7 +150,7 @@ fn read(text: &str) -> Option<Condition> {
         return Condition::reply(rest);
     }
     let numbers = rest.split(' ').map(|token| numeral(token.as_bytes()));
-    let numbers: Vec<u64> = numbers.collect::<Option<_>>()?;
+    let numbers: Vec<u64> = numbers.all_listed()?;
     match (word, &numbers[..]) {
         ("actor", &[actor]) => Some(Condition::actor(actor)),
         ("channel", &[channel]) => Some(Condition::channel(channel)),

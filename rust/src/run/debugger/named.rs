@@ -7,7 +7,7 @@ use super::recorded::Recorded;
 use super::{Channel, Condition, NoCondition, Walk};
 use crate::run::account::visible;
 use crate::run::by_text::TextMap;
-use crate::run::listed::IntoList;
+use crate::run::listed::{AllListed, IntoList};
 use crate::run::numbered::{NumberMap, NumberSet};
 use std::fmt;
 use std::str::FromStr;
@@ -222,19 +222,15 @@ impl Entities {
         receivers: NumberMap<(u32, u32), String>,
         actors: NumberMap<u32, String>,
     ) -> Entities {
-        let of_actors = actors
-            .iter()
-            .map(|(actor, name)| (name, Entity::Actor(*actor)));
-        let of_channels = (0..).zip(&channels);
-        let of_channels = of_channels.map(|(it, (name, _))| (name, Entity::Channel(it)));
-        let of_receivers = receivers.iter().rev();
-        let of_receivers = of_receivers.map(|((channel, handle), name)| {
-            let receiver = Entity::Receiver(*channel, *handle);
-            (name, receiver)
-        });
         let mut by_name = TextMap::new();
-        for (name, entity) in of_actors.chain(of_channels).chain(of_receivers) {
-            by_name.insert(name, entity);
+        for (actor, name) in &actors {
+            by_name.insert(name, Entity::Actor(*actor));
+        }
+        for (channel, (name, _)) in (0..).zip(&channels) {
+            by_name.insert(name, Entity::Channel(channel));
+        }
+        for ((channel, handle), name) in receivers.iter().rev() {
+            by_name.insert(name, Entity::Receiver(*channel, *handle));
         }
         Entities {
             by_name,
@@ -293,7 +289,7 @@ impl Entities {
             .map(|(actor, _)| *actor)
     }
 
-    fn channel(&self, name: &str, is_meant: impl Fn(u32) -> bool) -> Option<u32> {
+    fn channel(&self, name: &str, is_meant: &dyn Fn(u32) -> bool) -> Option<u32> {
         let visible = visible::name(name);
         let is_named =
             |number: &u32| [name, &visible].contains(&&*self.channels[*number as usize].0);
@@ -304,7 +300,7 @@ impl Entities {
             .or_else(|| meant().find(|number| Some(*number) == numbered))
     }
 
-    fn receiver(&self, name: &str, is_meant: impl Fn(u32) -> bool) -> Option<(u32, u32)> {
+    fn receiver(&self, name: &str, is_meant: &dyn Fn(u32) -> bool) -> Option<(u32, u32)> {
         let visible = visible::name(name);
         let meant = || {
             self.receivers
@@ -341,10 +337,10 @@ impl Entities {
             ConditionSubject::Reply => return None,
             ConditionSubject::Actor => Entity::Actor(self.actor(name)?),
             ConditionSubject::Channel | ConditionSubject::Broadcast | ConditionSubject::Watch => {
-                Entity::Channel(self.channel(name, is_meant)?)
+                Entity::Channel(self.channel(name, &is_meant)?)
             }
             ConditionSubject::BroadcastReceiver | ConditionSubject::WatchReceiver => {
-                let (channel, handle) = self.receiver(name, is_meant)?;
+                let (channel, handle) = self.receiver(name, &is_meant)?;
                 Entity::Receiver(channel, handle)
             }
         })
@@ -352,7 +348,7 @@ impl Entities {
 
     /// Whether there is a thing of this sort that has this name, or these numbers.
     fn has(&self, sort: ConditionSubject, name: &str) -> bool {
-        let numbers: Option<Vec<u32>> = name.split(' ').map(|it| it.parse().ok()).collect();
+        let numbers: Option<Vec<u32>> = name.split(' ').map(|it| it.parse().ok()).all_listed();
         let is_meant = |channel: &u32| sort.is_of_channel(self.is_watch(*channel));
         self.named_of(sort, name).is_some()
             || match (sort, numbers.as_deref()) {

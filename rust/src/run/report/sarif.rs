@@ -22,7 +22,7 @@ const FAILURE: &str = "failure";
 const WAITING: &str = "waiting";
 
 /// The rules by the kinds of facts, with what each says.
-const RULES: [(&str, &str); 13] = [
+const RULES: [(&str, &str); 14] = [
     (FAILURE, "A test failed."),
     (WAITING, "A call on a channel waits."),
     (
@@ -42,6 +42,10 @@ const RULES: [(&str, &str); 13] = [
     (
         "unlearned",
         "A receiver never learned of changes of a watch channel.",
+    ),
+    (
+        "unlooked",
+        "A receiver marked changes of a watch channel as seen without a look.",
     ),
     (
         "unmarked",
@@ -102,31 +106,34 @@ fn invocation(account: &Account) -> Option<(&'static str, Json)> {
         ])
     };
     let window = account.window.iter();
-    let window = window.map(|window| notification("note", &window.text));
+    let mut notifications = window
+        .map(|window| notification("note", &window.text))
+        .listed();
+    let left = account.left.iter();
+    notifications.push_all(left.map(|left| notification("warning", &left.text)));
     let unknown = account.unknown.iter();
     let unknown = unknown.map(|line| notification("warning", &format!("not all is known: {line}")));
-    let facts = account.with_levels();
-    let facts = facts.filter(|(_, fact)| place_of(account, fact).is_none());
-    let facts = facts.map(|(level, fact)| notification(level.word(), &fact.text().join("\n")));
+    notifications.push_all(unknown);
     let failed = account
         .failed
         .iter()
         .filter(|it| it.own_location().is_none());
-    let failed = failed.map(|failed| notification("error", &failed.text));
+    notifications.push_all(failed.map(|failed| notification("error", &failed.text)));
+    let race = account.race.iter();
+    let race = race.map(|race| notification("note", &format!("the race: {}", race.text)));
+    notifications.push_all(race);
+    let facts = account.with_levels();
+    let facts = facts.filter(|(_, fact)| place_of(account, fact).is_none());
+    let facts = facts.map(|(level, fact)| notification(level.word(), &fact.text().join("\n")));
+    notifications.push_all(facts);
     let waits = account
         .waiting
         .iter()
         .filter(|it| it.own_location().is_none());
-    let waits = waits.map(|wait| notification("note", &wait.text));
+    notifications.push_all(waits.map(|wait| notification("note", &wait.text)));
     let tasks = account.pending.iter();
     let tasks = tasks.map(|task| notification("note", &format!("waits: {}", task.text)));
-    let notifications = window
-        .chain(unknown)
-        .chain(failed)
-        .chain(facts)
-        .chain(waits)
-        .chain(tasks);
-    let notifications: Vec<_> = notifications.listed();
+    notifications.push_all(tasks);
     let is_needed = !notifications.is_empty();
     let invocation = Json::object(vec![
         ("executionSuccessful", Json::Bool(true)),
@@ -172,11 +179,12 @@ impl Places {
 
     /// The failure, the facts, and the calls that wait, of which a place is known.
     fn results(&self, account: &Account) -> Vec<Json> {
-        let failed = account.failed.iter().filter_map(|it| self.failure(it));
+        let failed = account.failed.iter();
+        let mut results = failed.filter_map(|it| self.failure(it)).listed();
         let facts = account.with_levels();
-        let facts = facts.filter_map(|(level, fact)| self.fact(account, fact, level.word()));
-        let waits = account.waiting.iter().filter_map(|it| self.wait(it));
-        failed.chain(facts).chain(waits).listed()
+        results.push_all(facts.filter_map(|(level, fact)| self.fact(account, fact, level.word())));
+        results.push_all(account.waiting.iter().filter_map(|it| self.wait(it)));
+        results
     }
 
     fn failure(&self, failed: &Failed) -> Option<Json> {

@@ -8,7 +8,7 @@ use crate::core::source::rw_findings::{Measure, Stretches, peaks_of};
 use crate::core::source::rw_handles::Kind;
 use crate::run::account::{Fact, FactStep, visible};
 use crate::run::journal::{Run, Spec};
-use crate::run::listed::{IntoList, PushAll};
+use crate::run::listed::{IntoList, Keep, PushAll};
 use crate::run::sidecar::{Json, Sidecar};
 
 /// From nothing to receive to all that the channel retains.
@@ -93,22 +93,23 @@ impl Strips<'_> {
         *asked.get_mut(channel as usize)? = true;
         let traffic = self.run.traffic(&asked).ok()?;
         let traffic = traffic.into_iter().nth(channel as usize)??;
-        let lives = (0..).zip(traffic.lives());
-        let all: Vec<_> = lives
-            .filter(|(_, life)| life.kind() == Kind::Receiver)
-            .map(|(number, life)| Receiver {
-                number,
-                name: self.name(fact, channel, number),
-                made: life.made(),
-                dropped: life.dropped().unwrap_or(u64::MAX),
-            })
-            .filter(|receiver| receiver.dropped > self.names.lead())
-            .listed();
-        let told = number(fact, "receiver").or_else(|| number(fact, "handle"));
-        match told.filter(|told| all.iter().any(|it| it.number == *told)) {
-            Some(told) => Some(all.into_iter().filter(|it| it.number == told).listed()),
-            None => Some(all),
+        let mut all = vec![];
+        for (number, life) in (0..).zip(traffic.lives()) {
+            let dropped = life.dropped().unwrap_or(u64::MAX);
+            if life.kind() == Kind::Receiver && dropped > self.names.lead() {
+                all.push(Receiver {
+                    number,
+                    name: self.name(fact, channel, number),
+                    made: life.made(),
+                    dropped,
+                });
+            }
         }
+        let told = number(fact, "receiver").or_else(|| number(fact, "handle"));
+        if let Some(told) = told.filter(|told| all.iter().any(|it| it.number == *told)) {
+            all.keep(|it| it.number == told);
+        }
+        Some(all)
     }
 
     /// Returns what a receiver is called: as in the fact, where that tells of it.

@@ -6,12 +6,13 @@ use super::reading::{by_number, list, number, optional_text};
 use super::{push_flag, push_items, push_list, push_map, push_number, push_string};
 use crate::run::listed::IntoList;
 use crate::run::numbered::{NumberMap, NumberSet};
+use std::sync::Arc;
 
 /// Who has made a channel, and how many channels of its run they had made before.
 #[derive(Clone, Debug, PartialEq, Eq, Hash)]
 pub(crate) struct Maker {
     /// The name of the thread or named future. `None` stands for all that nobody named.
-    pub(crate) name: Option<String>,
+    pub(crate) name: Option<Arc<str>>,
     pub(crate) nth: u64,
 }
 
@@ -87,7 +88,7 @@ fn maker(value: Json) -> Result<Maker, String> {
     let mut parts = list(value, Ok)?.into_iter();
     let mut next = || parts.next().unwrap_or(Json::Null);
     Ok(Maker {
-        name: optional_text(next())?,
+        name: optional_text(next())?.map(Into::into),
         nth: number(next())?,
     })
 }
@@ -100,7 +101,7 @@ mod tests {
 
     fn example() -> Sidecar {
         let maker = |name: Option<&str>, nth| Maker {
-            name: name.map(str::to_string),
+            name: name.map(Into::into),
             nth,
         };
         Sidecar {

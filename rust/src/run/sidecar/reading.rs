@@ -3,6 +3,7 @@
 
 use super::json::{self, Json, JsonReader};
 use super::{HeldBy, Sidecar, SourceLocation, VERSION_OF_TASKS, WaitingCall, tasks_seen, window};
+use crate::run::listed::Keep;
 use crate::run::numbered::NumberMap;
 
 impl Sidecar {
@@ -57,7 +58,7 @@ impl Sidecar {
     }
 
     fn read_key(&mut self, key: &str, value: Json) -> Result<(), String> {
-        if self.ending.read(key, &value)? {
+        if self.ending.read(key, &value)? || self.order.read(key, &value)? {
             return Ok(());
         }
         match key {
@@ -91,7 +92,7 @@ impl Sidecar {
     /// Returns what is wrong with the text.
     pub(crate) fn with_account(text: &str, account: &str) -> Result<String, String> {
         let mut members = object(json::read(text)?)?;
-        members.retain(|(key, _)| key != "account");
+        members.keep(|(key, _)| key != "account");
         members.push(("account".to_string(), json::read(account)?));
         let mut out = String::new();
         Json::Object(members).push(&mut out);
@@ -152,10 +153,14 @@ pub(super) fn list<T>(
     value: Json,
     item: impl Fn(Json) -> Result<T, String>,
 ) -> Result<Vec<T>, String> {
-    match value {
-        Json::List(items) => items.into_iter().map(item).collect(),
-        _ => Err("no list".to_string()),
+    let Json::List(values) = value else {
+        return Err("no list".to_string());
+    };
+    let mut items = Vec::with_capacity(values.len());
+    for value in values {
+        items.push(item(value)?);
     }
+    Ok(items)
 }
 
 /// Reads an object whose keys are numbers.
@@ -163,12 +168,15 @@ pub(super) fn by_number<T>(
     value: Json,
     item: impl Fn(Json) -> Result<T, String>,
 ) -> Result<NumberMap<u64, T>, String> {
-    let members = object(value)?.into_iter();
-    let numbered = members.map(|(key, value)| {
-        let number = key.parse().map_err(|_| format!("`{key}` is no number"))?;
-        Ok((number, item(value)?))
-    });
-    numbered.collect()
+    let mut items = NumberMap::new();
+    for (key, value) in object(value)? {
+        items.insert(number_of(&key)?, item(value)?);
+    }
+    Ok(items)
+}
+
+fn number_of(key: &str) -> Result<u64, String> {
+    key.parse().map_err(|_| format!("`{key}` is no number"))
 }
 
 /// Reads the next value of a document as such an object. `item` reads each of its items.
@@ -176,13 +184,12 @@ fn numbered<T>(
     reader: &mut JsonReader<'_>,
     item: impl Fn(&mut JsonReader<'_>) -> Result<T, String>,
 ) -> Result<NumberMap<u64, T>, String> {
-    let mut items = vec![];
+    let mut items = NumberMap::new();
     reader.members(|reader, key| {
-        let number = key.parse().map_err(|_| format!("`{key}` is no number"))?;
-        items.push((number, item(reader)?));
+        items.insert(number_of(&key)?, item(reader)?);
         Ok(())
     })?;
-    Ok(items.into_iter().collect())
+    Ok(items)
 }
 
 /// Reads the next value of a document as a text.

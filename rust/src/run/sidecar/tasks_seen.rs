@@ -2,8 +2,8 @@
 
 use super::json::Json;
 use super::reading::{list, members, number, optional, optional_text, text_of};
-use super::{push_list, push_member, push_optional, push_string};
-use crate::run::listed::IntoList;
+use super::{push_key, push_list, push_optional, push_string};
+use crate::run::listed::{IntoList, Keep};
 use std::fmt::Write;
 
 /// What was seen of the tasks of a test.
@@ -164,18 +164,19 @@ impl TasksSeen {
             let stays = |index: usize| within[index] || index + 2 >= count || within[index + 1];
             let stays: Vec<_> = (0..count).map(stays).listed();
             let mut stays = stays.into_iter();
-            task.polls.retain(|_| stays.next() == Some(true));
+            task.polls.keep(|_| stays.next() == Some(true));
         }
     }
 
     /// Raises all stamps by as much as those of the calls are.
     pub(crate) fn raise(&mut self, by: u64) {
-        let polls = self.tasks.iter_mut().flat_map(|task| &mut task.polls);
-        for poll in polls {
-            poll.before = poll.before.saturating_add(by);
-            poll.after = poll.after.saturating_add(by);
-            if let Some(woken) = &mut poll.woken {
-                woken.stamp = woken.stamp.saturating_add(by);
+        for task in &mut self.tasks {
+            for poll in &mut task.polls {
+                poll.before = poll.before.saturating_add(by);
+                poll.after = poll.after.saturating_add(by);
+                if let Some(woken) = &mut poll.woken {
+                    woken.stamp = woken.stamp.saturating_add(by);
+                }
             }
         }
         self.unknown_since = self.unknown_since.map(|it| it.saturating_add(by));
@@ -183,39 +184,35 @@ impl TasksSeen {
 
     /// Whether all indexes are those of what is there.
     fn is_whole(&self) -> bool {
-        let is_place = |place: &usize| *place < self.places.len();
+        let is_place = |place: usize| place < self.places.len();
         let is_task = |task: usize| task < self.tasks.len();
-        let mut polls = self.tasks.iter().flat_map(|task| &task.polls);
-        let mut within = self.tasks.iter().filter_map(|task| task.within);
-        within.all(is_task)
-            && polls.all(|poll| {
-                let woken = poll.woken.as_ref();
-                let of_wake = woken
-                    .into_iter()
-                    .flat_map(|it| it.place.iter().chain(&it.kept_at));
-                poll.places.iter().chain(of_wake).all(is_place)
-                    && woken.and_then(|it| it.by.task()).is_none_or(is_task)
-            })
+        let is_wake = |woken: &SeenWake| {
+            woken.place.is_none_or(is_place)
+                && woken.kept_at.is_none_or(is_place)
+                && woken.by.task().is_none_or(is_task)
+        };
+        let is_poll = |poll: &SeenPoll| {
+            poll.places.iter().all(|place| is_place(*place))
+                && poll.woken.as_ref().is_none_or(is_wake)
+        };
+        let mut tasks = self.tasks.iter();
+        tasks.all(|task| task.within.is_none_or(is_task) && task.polls.iter().all(is_poll))
     }
 }
 
 /// Appends the member of the document.
 pub(super) fn push(out: &mut String, seen: &TasksSeen) {
-    push_member(out, "tasks_seen", |out| {
-        let _ = write!(
-            out,
-            "{{\"times\": {}, \"now\": {}",
-            seen.has_times, seen.now
-        );
-        if let Some(since) = seen.unknown_since {
-            let _ = write!(out, ", \"unknown_since\": {since}");
-        }
-        out.push_str(", \"places\": ");
-        push_list(out, &seen.places, push_place);
-        out.push_str(", \"tasks\": ");
-        push_list(out, &seen.tasks, push_task);
-        out.push('}');
-    });
+    push_key(out, "tasks_seen");
+    let (has_times, now) = (seen.has_times, seen.now);
+    let _ = write!(out, "{{\"times\": {has_times}, \"now\": {now}");
+    if let Some(since) = seen.unknown_since {
+        let _ = write!(out, ", \"unknown_since\": {since}");
+    }
+    out.push_str(", \"places\": ");
+    push_list(out, &seen.places, push_place);
+    out.push_str(", \"tasks\": ");
+    push_list(out, &seen.tasks, push_task);
+    out.push('}');
 }
 
 fn push_place(out: &mut String, place: &SeenPlace) {

@@ -194,6 +194,7 @@ impl Follow {
         });
         if !is_exact && self.diverged.is_none() {
             self.diverged = Some(self.count);
+            super::run::note_left(self.count);
         }
         self.count += 1;
         let Some((step, candidate)) = found else {

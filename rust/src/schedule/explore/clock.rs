@@ -3,7 +3,7 @@
 //! stands still, so that no timer ends since a run is slow.
 
 use super::threads::SOON;
-use crate::run::listed::IntoList;
+use crate::run::listed::{IntoList, Keep};
 use crate::run::sorting::sort_by_key;
 use std::mem;
 use std::task::Waker;
@@ -175,7 +175,7 @@ impl TestClock {
     pub(super) fn ended(&mut self) -> Vec<Waker> {
         let now = self.now;
         let mut due: Vec<&mut SetTimer> = self.timers.iter_mut().listed();
-        due.retain(|timer| timer.due <= now && timer.waker.is_some());
+        due.keep(|timer| timer.due <= now && timer.waker.is_some());
         sort_by_key(&mut due, |timer| (timer.due, timer.number));
         due.into_iter()
             .filter_map(|timer| timer.waker.take())

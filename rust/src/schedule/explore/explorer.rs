@@ -16,7 +16,7 @@ use crate::channels::actors::{self, is_in_task, last_task, note_facade, set_last
 use crate::channels::timers::Timers;
 use crate::channels::turns::{ArrivingCall, Tasks, TestEnd, Ticket, Turns};
 use crate::channels::whereabouts::{PlaceNumber, current_place};
-use crate::run::listed::PushAll;
+use crate::run::listed::{Keep, PushAll};
 use crate::run::operation::CallSet;
 use crate::run::sidecar::Maker;
 use crate::schedule::entrance::Entrance;
@@ -178,7 +178,7 @@ impl Explorer {
         }
         let of_timers = state.clock.leave();
         state.wakers.push_all(of_timers);
-        state.stands.retain(Stand::is_blocking);
+        state.stands.keep(Stand::is_blocking);
         self.entrance.helper.notify_all();
     }
 
@@ -200,7 +200,7 @@ impl Turns for Explorer {
         false
     }
 
-    fn see_maker(&self, _name: &Option<String>) {}
+    fn see_maker(&self, _name: Option<&str>) {}
 
     fn channel_by(&self, _maker: &Maker) -> Option<u32> {
         Some(self.channels.fetch_add(1, Ordering::Relaxed))

@@ -1,6 +1,6 @@
 //! By what the choices of a run are made, and the text that names it.
 
-use crate::run::listed::IntoList;
+use crate::run::listed::{AllListed, IntoList};
 use std::fmt;
 use std::path::PathBuf;
 
@@ -43,7 +43,7 @@ impl Order {
         let mut chars = text.chars();
         let (first, rest) = (chars.next()?, chars.as_str());
         let numbers = || rest.split('.').map(|number| number.parse::<u64>().ok());
-        let numbers = || numbers().collect::<Option<Vec<_>>>();
+        let numbers = || numbers().all_listed();
         let kind = match first {
             's' => OrderKind::Steps(steps(rest)?),
             'r' => OrderKind::Random(rest.parse().ok()?),
@@ -92,7 +92,7 @@ fn steps(text: &str) -> Option<Vec<(u32, u32)>> {
         let (at, other) = step.split_once('.')?;
         Some((at.parse().ok()?, other.parse().ok()?))
     };
-    text.split('-').map(step).collect()
+    text.split('-').map(step).all_listed()
 }
 
 impl fmt::Display for Order {

@@ -15,6 +15,7 @@ use crate::channels::turns::{self, Explored};
 use crate::channels::whereabouts::PlaceNumber;
 use crate::run::listed::PushAll;
 use crate::run::numbered::NumberMap;
+use crate::run::sidecar::LeftReplay;
 use crate::run::sorting::sort_by_key;
 use crate::schedule::replay;
 use std::path::{Path, PathBuf};
@@ -55,6 +56,8 @@ struct ExploredRun {
     schedule: Option<PathBuf>,
     /// The schedule that a replay follows, with its number of steps.
     followed: Option<(PathBuf, usize)>,
+    /// The first step that isn't the schedule's, and the stamp of the last call before it.
+    left: OnceLock<(u32, u64)>,
     test: Mutex<Option<TestOfRun>>,
 }
 
@@ -103,6 +106,7 @@ pub(crate) fn begin() -> bool {
         explorer,
         schedule: env::var_os(SCHEDULE).map(PathBuf::from),
         followed: None,
+        left: OnceLock::new(),
         test: Mutex::default(),
     });
     begun.unwrap_or_else(|error| panic!("yovanelum: {ORDER} is `{text}`: {error}"));
@@ -199,6 +203,7 @@ pub(crate) fn follow(journal: &Path) -> io::Result<bool> {
         explorer,
         schedule: None,
         followed,
+        left: OnceLock::new(),
         test: Mutex::default(),
     })?;
     Ok(true)
@@ -213,6 +218,37 @@ pub(crate) fn hash_of(journal: &str) -> u64 {
 pub(crate) fn followed() -> Option<&'static Path> {
     let (path, _) = RUN.get()?.followed.as_ref()?;
     Some(path)
+}
+
+/// Notes the first step that isn't that of the schedule which is followed.
+pub(super) fn note_left(step: u32) {
+    let Some(run) = RUN.get() else { return };
+    let test = lock(&run.test);
+    let recorder = test.as_ref().and_then(|test| test.recorder.upgrade());
+    drop(test);
+    let since = recorder.map_or(0, |recorder| recorder.last());
+    let _ = run.left.set((step, since));
+}
+
+/// Returns the file's name of the schedule that this process follows, where the run left it in
+/// words, and the stamp of the last call before that, if it has.
+pub(crate) fn left() -> Option<LeftReplay> {
+    let run = RUN.get()?;
+    let (path, steps) = run.followed.as_ref()?;
+    let (step, since) = *run.left.get()?;
+    (step < *steps as u32).then(|| LeftReplay {
+        file: path
+            .file_name()
+            .unwrap_or_default()
+            .to_string_lossy()
+            .into(),
+        since: Some(since),
+        text: diverges_in_words(step, *steps),
+    })
+}
+
+fn diverges_in_words(step: u32, steps: usize) -> String {
+    format!("diverges at step {} of the schedule's {steps}", step + 1)
 }
 
 /// Returns the folder in which this process writes the files of its test, in place of cargo's
@@ -264,11 +300,8 @@ fn said(followed: &Schedule, steps: usize) -> String {
         RunEnd::Failed => "the test failed",
         RunEnd::Hung => "the test hangs",
     };
-    match followed.diverged.map(|at| at as usize) {
-        Some(at) if at < steps => format!(
-            "diverges at step {} of the schedule's {steps}; {end}",
-            at + 1
-        ),
+    match followed.diverged {
+        Some(at) if (at as usize) < steps => format!("{}; {end}", diverges_in_words(at, steps)),
         _ if followed.steps.len() < steps => {
             format!(
                 "ended after {} of the schedule's {steps} steps; {end}",

@@ -25,6 +25,13 @@ pub(crate) struct Step {
     pub(crate) who: Arc<str>,
 }
 
+impl Step {
+    /// Whether it is a call of a recorded channel.
+    pub(crate) fn is_call(&self) -> bool {
+        matches!(self.what, What::Call { .. })
+    }
+}
+
 #[cfg(test)]
 impl Step {
     /// A poll of the first of two who stood.

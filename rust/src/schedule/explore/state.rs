@@ -13,7 +13,7 @@ use super::stand::{Arrival, Stand};
 use super::threads::{Asked, Sleeper, ThreadId, Threads, this_thread};
 use crate::channels::whereabouts::PlaceNumber;
 use crate::run::by_text::TextMap;
-use crate::run::listed::{IntoList, PushAll};
+use crate::run::listed::{IntoList, Keep, PushAll};
 use crate::run::numbered::NumberMap;
 use crate::run::sorting::sort_by;
 use std::sync::Arc;
@@ -360,7 +360,7 @@ impl ExplorerState {
         let is_idle = |stand: &Stand| self.looks.is_idle(&stand.who, stand.look());
         let is_any_busy = standing.iter().any(|stand| !is_idle(stand));
         if is_any_busy {
-            standing.retain(|stand| !is_idle(stand));
+            standing.keep(|stand| !is_idle(stand));
         }
         let mut all: Vec<Candidate> = standing.into_iter().map(Stand::candidate).listed();
         sort_by(&mut all, |a, b| (&a.who, a.number).cmp(&(&b.who, b.number)));

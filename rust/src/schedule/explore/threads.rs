@@ -3,7 +3,7 @@
 
 use super::random::hashed;
 use super::system_call::{self, Doing, Timer};
-use crate::run::listed::{IntoList, PushAll};
+use crate::run::listed::{Keep, PushAll};
 use std::cell::OnceCell;
 use std::fs::{self, File};
 use std::path::{Path, PathBuf};
@@ -154,11 +154,12 @@ impl Threads {
             return;
         }
         self.link_count = link_count;
-        let entries = fs::read_dir(&self.folder).into_iter().flatten().flatten();
-        let numbers = entries.filter_map(|entry| entry.file_name().to_str()?.parse().ok());
-        let numbers: Vec<ThreadId> = numbers.listed();
-        self.threads
-            .retain(|thread| numbers.contains(&thread.number));
+        let mut numbers: Vec<ThreadId> = vec![];
+        if let Ok(entries) = fs::read_dir(&self.folder) {
+            let names = entries.flatten().map(|entry| entry.file_name());
+            numbers.push_all(names.filter_map(|name| name.to_str()?.parse().ok()));
+        }
+        self.threads.keep(|thread| numbers.contains(&thread.number));
         for number in numbers {
             if !self.threads.iter().any(|thread| thread.number == number) {
                 let is_of_others = self.harness == Some(number);

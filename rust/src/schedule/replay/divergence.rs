@@ -7,7 +7,7 @@ use super::state::GateState;
 use crate::channels::backend::Actor;
 use crate::channels::channel::CallSite;
 use crate::run::operation::CallSet;
-use std::fmt::Write as _;
+use std::fmt::{self, Write as _};
 use std::time::Duration;
 
 /// What has come in place of the call that was expected.
@@ -21,13 +21,28 @@ pub(super) enum CameInstead {
     ToWait,
 }
 
+/// Where a replay diverges, and why.
+#[derive(Clone, Debug, PartialEq, Eq)]
+pub(crate) struct Divergence {
+    /// As `diverges at call 2 of 6: expected .., came ..`.
+    pub(crate) text: String,
+    // What to write where tasks have no names of their own, or nothing.
+    advice: &'static str,
+}
+
+impl fmt::Display for Divergence {
+    fn fmt(&self, f: &mut fmt::Formatter<'_>) -> fmt::Result {
+        write!(f, "{}{}", self.text, self.advice)
+    }
+}
+
 /// Returns where a replay diverges, and why. What came is of this call.
-pub(super) fn in_words(
+pub(super) fn found(
     plan: &Plan,
     state: &GateState,
     came: CameInstead,
     coming: Option<&ArrivingCall>,
-) -> String {
+) -> Divergence {
     let mut words = format!("diverges at {}: expected ", call_of(plan, state.position));
     if let Some(step) = plan.steps.get(state.position) {
         words.push_str(&step_in_words(plan, step));
@@ -43,7 +58,10 @@ pub(super) fn in_words(
         ),
         CameInstead::ToWait => write!(words, ", came the same call, which had to wait"),
     };
-    words + &of_questions(plan, state, coming) + of_tasks(plan, state)
+    Divergence {
+        text: words + &of_questions(plan, state, coming),
+        advice: of_tasks(plan, state),
+    }
 }
 
 /// Says that tasks have no names, or those of their places alone, if some have, and what to write.

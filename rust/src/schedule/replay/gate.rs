@@ -4,7 +4,7 @@
 mod futures;
 mod turns;
 
-use super::divergence::{self, CameInstead};
+use super::divergence::{self, CameInstead, Divergence};
 use super::outcome::{self, Replayed};
 use super::plan::Plan;
 use super::state::{GateState, Standing, Wakes};
@@ -13,6 +13,7 @@ use crate::channels::backend::Actor;
 use crate::channels::reentrant::thread_number;
 use crate::channels::standard_error::say;
 use crate::run::listed::IntoList;
+use crate::run::sidecar::Maker;
 use crate::schedule::entrance::Entrance;
 use crate::schedule::explore::this_thread;
 use std::path::{Path, PathBuf};
@@ -256,11 +257,11 @@ impl Gate {
 
     /// Leaves the journal's order, and says so. What came is of this call.
     fn diverge(&self, state: &mut GateState, came: CameInstead, coming: Option<&ArrivingCall>) {
-        let line = divergence::in_words(&self.plan, state, came, coming);
+        let divergence = divergence::found(&self.plan, state, came, coming);
         say(&format!(
-            "the replay {line}; from here on, calls are in no order"
+            "the replay {divergence}; from here on, calls are in no order"
         ));
-        state.divergence = Some(line);
+        state.divergence = Some(divergence);
         self.end(state);
     }
 
@@ -284,6 +285,19 @@ impl Gate {
     /// Whether a call was another one than that of the journal.
     pub(crate) fn has_diverged(&self) -> bool {
         self.entrance.enter().divergence.is_some()
+    }
+
+    /// Returns how many calls had been made in the journal's order when the replay left it, and
+    /// where and why that was, if it has.
+    pub(crate) fn left(&self) -> Option<(usize, Divergence)> {
+        let state = self.entrance.enter();
+        let divergence = state.divergence.clone()?;
+        Some((state.position, divergence))
+    }
+
+    /// Whether the journal has a channel that was made so, whose calls it orders.
+    pub(crate) fn orders(&self, maker: &Maker) -> bool {
+        self.plan.channel_by(maker).is_some()
     }
 
     /// Returns how the replay goes so far.

@@ -9,6 +9,7 @@ use crate::channels::lock::lock;
 use crate::channels::recorder::Recorder;
 use crate::channels::turns::{self, Polls, explored};
 use crate::run::journal::{self, Run};
+use crate::run::listed::Keep;
 use crate::run::sidecar::Sidecar;
 use std::path::Path;
 use std::sync::{Arc, Mutex, Weak};
@@ -47,7 +48,7 @@ pub(crate) fn open(path: &Path, recorder: u64) -> io::Result<Arc<Gate>> {
     let gate = Arc::new(Gate::new(path, recorder, plan, patience).stopping_at(stop_at));
     helper::start(&gate)?;
     let mut open = lock(&OPEN);
-    open.retain(|gate| gate.strong_count() > 0);
+    open.keep(|gate| gate.strong_count() > 0);
     open.push(Arc::downgrade(&gate));
     hold_polls();
     Ok(gate)

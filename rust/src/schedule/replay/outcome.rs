@@ -1,7 +1,7 @@
 //! How a replay went, in words.
 
 use super::ArrivingCall;
-use super::divergence::of_tasks;
+use super::divergence::{Divergence, of_tasks};
 use super::plan::{Plan, PlannedCall};
 use super::state::GateState;
 use crate::channels::backend::Actor;
@@ -48,7 +48,7 @@ use std::fmt::{self, Write as _};
 pub struct Replayed {
     calls: usize,
     made: usize,
-    divergence: Option<String>,
+    divergence: Option<Divergence>,
     next: String,
     shared: Option<String>,
     other_text: Option<String>,
@@ -157,7 +157,7 @@ impl Replayed {
 impl fmt::Display for Replayed {
     fn fmt(&self, f: &mut fmt::Formatter<'_>) -> fmt::Result {
         match &self.divergence {
-            Some(divergence) => f.write_str(divergence)?,
+            Some(divergence) => write!(f, "{divergence}")?,
             None if self.made < self.calls => f.write_str(&self.next)?,
             None => write!(f, "all {} calls in the recorded order", self.calls)?,
         }

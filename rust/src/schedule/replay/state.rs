@@ -1,6 +1,7 @@
 //! Where a replay stands, and who waits for their turn. The gate locks it.
 
 use super::clock::{RunningClock, Time};
+use super::divergence::Divergence;
 use super::outcome;
 use super::plan::{NONE, Plan};
 use super::waiters::Waiters;
@@ -9,7 +10,7 @@ use crate::channels::backend::Actor;
 use crate::channels::channel::CallSite;
 use crate::channels::turns::Ticket;
 use crate::run::by_text::TextMap;
-use crate::run::listed::{IntoList, PushAll};
+use crate::run::listed::{IntoList, Keep, PushAll};
 
 use crate::run::operation::Operation;
 use crate::schedule::explore::ThreadId;
@@ -117,7 +118,7 @@ pub(super) struct GateState {
     pub(super) is_told: bool,
     pub(super) is_asked: bool,
     /// Why the run left the journal's order.
-    pub(super) divergence: Option<String>,
+    pub(super) divergence: Option<Divergence>,
     /// What several callers share first who can't be told apart.
     pub(super) shared: Option<String>,
     /// Whether a task without a name has made a call, or a test's body without one.
@@ -330,14 +331,14 @@ impl GateState {
     }
 
     /// Records who has made a channel under this name, or under none.
-    pub(super) fn see_maker(&mut self, name: &Option<String>, user: Identity) {
+    pub(super) fn see_maker(&mut self, name: Option<&str>, user: Identity) {
         let before = match name {
             Some(name) => self.makers.insert(name, user.clone()),
             None => self.nameless_maker.replace(user.clone()),
         };
         let is_other = before.is_some_and(|before| before.is_alive() && !before.is_same(&user));
         if is_other && self.shared.is_none() {
-            self.shared = Some(outcome::shared_making(name.as_deref()));
+            self.shared = Some(outcome::shared_making(name));
         }
     }
 
@@ -396,7 +397,7 @@ impl GateState {
 
     /// Removes a thread from those that are blocked.
     pub(super) fn unblock(&mut self, thread: ThreadId) {
-        self.blocked.retain(|other| *other != thread);
+        self.blocked.keep(|other| *other != thread);
     }
 
     /// Whether a future waits or is held back, or a thread is blocked.
@@ -423,9 +424,11 @@ impl GateState {
             self.release(actor as u32);
         }
         let waiters = std::mem::take(&mut self.waiters).into_values();
-        self.woken.push_all(waiters.map(|waiter| waiter.waker));
-        let tasks = self.lanes.iter_mut().flat_map(|lane| lane.tasks.drain(..));
-        self.woken.push_all(tasks);
+        let wakers = waiters.into_iter().map(|waiter| waiter.waker);
+        self.woken.push_all(wakers);
+        for lane in &mut self.lanes {
+            self.woken.append(&mut lane.tasks);
+        }
         self.wake_all();
     }
 

@@ -343,7 +343,7 @@ fn channels_are_known_by_their_makers() {
     let gate = gate();
     let made = |name: Option<&str>, nth| {
         gate.channel_by(&Maker {
-            name: name.map(str::to_string),
+            name: name.map(Into::into),
             nth,
         })
     };

@@ -2,6 +2,7 @@
 
 use super::state::Waiter;
 use crate::channels::turns::Ticket;
+use crate::run::listed::PushAll;
 use crate::run::numbered::NumberMap;
 
 /// The waiters of a replay. A lane is here while it has some.
@@ -32,11 +33,19 @@ impl Waiters {
         self.0.is_empty()
     }
 
-    pub(super) fn values(&self) -> impl Iterator<Item = &Waiter> {
-        self.0.values().flat_map(NumberMap::values)
+    pub(super) fn values(&self) -> Vec<&Waiter> {
+        let mut all = vec![];
+        for of_lane in self.0.values() {
+            all.push_all(of_lane.values());
+        }
+        all
     }
 
-    pub(super) fn into_values(self) -> impl Iterator<Item = Waiter> {
-        self.0.into_values().flat_map(NumberMap::into_values)
+    pub(super) fn into_values(self) -> Vec<Waiter> {
+        let mut all = vec![];
+        for of_lane in self.0.into_values() {
+            all.push_all(of_lane.into_values());
+        }
+        all
     }
 }

@@ -35,6 +35,7 @@ pub fn said(facts: &[Json]) -> Vec<Said> {
         ("loss", &["lost", "of", "losses"][..]),
         ("unreached", &["sends"]),
         ("unlearned", &["changes", "of"]),
+        ("unlooked", &["changes", "of"]),
         ("unmarked", &["changes", "of"]),
         ("closing", &["receivers", "told"]),
     ];
@@ -87,6 +88,7 @@ pub fn check_report(account: &Json, report: &str, calls: u64) {
     for (kind, key, things, values) in [
         ("loss", "losses", "receivers", "lost"),
         ("unlearned", "unlearned", "receivers", "changes"),
+        ("unlooked", "unlooked", "receivers", "changes"),
         ("unmarked", "unmarked", "receivers", "changes"),
     ] {
         let left = facts[after..].iter();
@@ -144,6 +146,11 @@ fn check_fact(fact: &Json, losses: &[Loss]) {
             count("changes"),
             count("of")
         )),
+        "unlooked" => has(format!(
+            " marked {} of {} change",
+            count("changes"),
+            count("of")
+        )),
         "unmarked" => has(format!(
             " never marked {} of {} change",
             count("changes"),
@@ -188,9 +195,15 @@ fn check_told_loss(fact: &Json, losses: &[Loss]) {
 
 /// The place that is worth looking at first, of the first fact, if its kind says it.
 fn look_of(facts: &[Json]) -> Option<u64> {
-    let mut steps = facts.first()?.get("places").unwrap().items().iter();
+    let first = facts.first()?;
+    let mut steps = first.get("places").unwrap().items().iter();
+    let is_mark = first.get("kind").unwrap().as_text() == Some("unlooked");
     let mut roles = steps.clone().map(|it| it.get("role").unwrap().as_text());
-    let at = roles.position(|it| matches!(it, Some("cause" | "change" | "close")))?;
+    let at = roles.position(|it| match it {
+        Some("mark") => is_mark,
+        Some("change") => !is_mark,
+        other => matches!(other, Some("cause" | "close")),
+    })?;
     number(steps.nth(at)?, "place")
 }
 

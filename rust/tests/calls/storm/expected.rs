@@ -175,7 +175,12 @@ pub struct Looker {
     born: u64,
     died: Option<u64>,
     mark: u64,
+    /// Whether it was marked as changed since.
+    pub is_unmarked: bool,
     learned: BTreeSet<u64>,
+    /// What it marked by `mark_unchanged`, and what it learned of in another way.
+    dismissed: BTreeSet<u64>,
+    known: BTreeSet<u64>,
     looked: BTreeSet<u64>,
     marked: BTreeSet<u64>,
     asks: bool,
@@ -184,7 +189,7 @@ pub struct Looker {
 impl Looker {
     /// Whether a change came that it hasn't marked, where `changes` came in all.
     pub fn has_new(&self, changes: u64) -> bool {
-        self.mark < changes
+        self.is_unmarked || self.mark < changes
     }
 }
 
@@ -234,6 +239,7 @@ impl Watch {
         let looker = Looker {
             born: self.changes,
             mark: self.lookers[&original].mark,
+            is_unmarked: self.lookers[&original].is_unmarked,
             ..Looker::default()
         };
         self.lookers.insert(receiver, looker);
@@ -245,11 +251,24 @@ impl Watch {
         let looker = self.lookers.get_mut(&receiver).unwrap();
         if has_marked {
             looker.mark = changes;
+            looker.is_unmarked = false;
         }
         if changes > looker.born {
             looker.learned.insert(changes);
+            looker.known.insert(changes);
             looker.looked.extend(has_looked.then_some(changes));
             looker.marked.extend(has_marked.then_some(changes));
+        }
+    }
+
+    /// Takes that a receiver marked the last change as seen, by which it isn't told of it.
+    pub fn dismissed(&mut self, receiver: u32) {
+        let looker = self.lookers.get_mut(&receiver).unwrap();
+        (looker.mark, looker.is_unmarked) = (self.changes, false);
+        if self.changes > looker.born {
+            looker.learned.insert(self.changes);
+            looker.marked.insert(self.changes);
+            looker.dismissed.insert(self.changes);
         }
     }
 
@@ -289,6 +308,11 @@ impl Watch {
             if unlearned > 0 {
                 let numbers = vec![unlearned, came];
                 facts.push(("unlearned", self.number, Some(*number), numbers));
+            }
+            let unlooked = looker.dismissed.difference(&looker.known).count() as u64;
+            if unlooked > 0 {
+                let numbers = vec![unlooked, came];
+                facts.push(("unlooked", self.number, Some(*number), numbers));
             }
             let unmarked = all_but(&looker.marked);
             if looker.asks && unmarked > all_but(&looker.looked) {

@@ -68,7 +68,7 @@ async fn a_task_is_joined() {
 
 // Worker 5 waits for a second change, which nobody makes. The unwinding test drops the sender.
 // | failed: a_worker_of_a_pool_hangs at @elapsed: a worker hangs: Elapsed(())
-// | warning: `shutdown.changed` of worker 5 waits: `shutdown` wasn't changed since call 10
+// | warning: `shutdown.changed` of worker 5 waits: `shutdown` wasn't changed since call 10, which `changed` marked as seen (call .*)
 // |   --> tests/causes.rs:@second
 // |   senders: sender 0 of @made (last used at call 10 by a_worker_of_a_pool_hangs)
 #[tokio::test(flavor = "multi_thread", worker_threads = 2)]

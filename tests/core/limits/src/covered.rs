@@ -35,7 +35,7 @@ const COVERED: &[(&str, &str, &str)] = &[
     ("rw_recording/src/past.rt", "are_few", "none: a window of more calls than a journal has is of the later ones alone"),
     ("rw_recording/src/past.rt", "has_numbers", "none: no chunk has as many new handles where its dropped ones are taken out"),
     ("rw_recording/src/past.rt", "is_below", "none: as has_numbers"),
-    ("rw_recording/src/recording.rt", "unrecorded", "none: no channel gets as heavy in a lifetime"),
+    ("rw_recording/src/recording.rt", "more_room", "none: no channel gets as heavy in a lifetime"),
     ("rw_script/src/reader.rt", "add_head", "Script::read, actors"),
     ("rw_script/src/reader.rt", "add_spec", "Script::read, channels"),
     ("rw_script/src/reader.rt", "add_step", "Script::read, run_one"),

@@ -217,7 +217,9 @@ impl CoreChannel {
     #[cold]
     fn settle_drop(&mut self, number: usize) {
         if self.senders() == 0 {
-            self.machines().for_each(Machine::drop_sender);
+            for machine in self.machines() {
+                machine.drop_sender();
+            }
         }
         self.drop_if_unused(number);
         let is_alone = self.further.iter_mut().flatten().all(Machine::is_unused);

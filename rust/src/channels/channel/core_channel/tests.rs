@@ -75,12 +75,14 @@ impl Pair {
             in_many: number,
             in_one: number,
         };
-        let mut many = CoreChannel::open(spec, most).unwrap();
-        if seed % 2 == 1 {
-            many.leave_unnamed();
-        }
+        let is_recorded = seed % 2 == 0;
+        let open = if is_recorded {
+            Recording::open
+        } else {
+            Recording::open_unrecorded
+        };
         Pair {
-            many,
+            many: CoreChannel::of_most(open(spec).unwrap(), most),
             one: Recording::open(spec).unwrap(),
             handles: vec![handle(Kind::Sender, 0), handle(Kind::Receiver, 1)],
             values: 0,
@@ -399,7 +401,7 @@ fn subscribe(channel: &mut CoreChannel, count: u32, kept: u32) -> Vec<u32> {
 
 #[test]
 fn dropped_handles_are_taken_out_of_the_one_machine_and_numbers_are_used_again() {
-    let mut channel = CoreChannel::open(Spec::Broadcast(2), 256).unwrap();
+    let mut channel = CoreChannel::of_most(Recording::open(Spec::Broadcast(2)).unwrap(), 256);
     channel.end();
     let alive = subscribe(&mut channel, 20_000, 200);
     assert!(channel.further.is_empty());
@@ -415,7 +417,7 @@ fn dropped_handles_are_taken_out_of_the_one_machine_and_numbers_are_used_again()
 
 #[test]
 fn while_a_channel_is_recorded_a_handle_has_the_number_of_the_journal() {
-    let mut channel = CoreChannel::open(Spec::Broadcast(2), 256).unwrap();
+    let mut channel = CoreChannel::of_most(Recording::open(Spec::Broadcast(2)).unwrap(), 256);
     for number in 2..256 {
         assert!(!channel.has_named_all());
         let receiver = channel.broadcast_subscribe(CALLER, 0).new_handle();
@@ -432,8 +434,8 @@ fn while_a_channel_is_recorded_a_handle_has_the_number_of_the_journal() {
 
 #[test]
 fn once_few_handles_are_left_without_a_journal_they_have_the_numbers_of_their_machine() {
-    let mut channel = CoreChannel::open(Spec::Broadcast(2), 256).unwrap();
-    channel.leave_unnamed();
+    let core = Recording::open_unrecorded(Spec::Broadcast(2)).unwrap();
+    let mut channel = CoreChannel::of_most(core, 256);
     let alive = subscribe(&mut channel, 1_000, 100);
     assert!(channel.numbers.are_own());
     for receiver in &alive {
@@ -448,7 +450,7 @@ fn once_few_handles_are_left_without_a_journal_they_have_the_numbers_of_their_ma
 
 #[test]
 fn further_machines_stay_while_more_handles_are_alive_than_one_makes() {
-    let mut channel = CoreChannel::open(Spec::Broadcast(2), 256).unwrap();
+    let mut channel = CoreChannel::of_most(Recording::open(Spec::Broadcast(2)).unwrap(), 256);
     channel.end();
     for _ in 0..10 {
         let alive = subscribe(&mut channel, 1_000, 1);
@@ -466,7 +468,7 @@ fn further_machines_stay_while_more_handles_are_alive_than_one_makes() {
 
 #[test]
 fn the_first_machine_makes_as_many_handles_as_a_journal_names() {
-    let mut channel = CoreChannel::watch().unwrap();
+    let mut channel = CoreChannel::new(Recording::open(Spec::Watch(0)).unwrap());
     for made in 2..MOST_HANDLES {
         assert!(!channel.has_named_all());
         assert_eq!(channel.watch_subscribe(CALLER, 0).new_handle(), made);

@@ -1,8 +1,8 @@
 //! A dump that somebody has begun, and how many there were.
 
+use crate::channels::oneshot::Receiver;
 use std::io;
 use std::path::PathBuf;
-use std::sync::mpsc::Receiver;
 
 /// A dump of a flight recorder that is being written, returned by
 /// [`Recorder::dump`](crate::Recorder::dump).
@@ -50,7 +50,7 @@ impl Dump {
     /// ```
     pub fn wait(self) -> io::Result<PathBuf> {
         let ended = self.0.recv();
-        ended.unwrap_or_else(|_| Err(io::Error::other("the dump has ended early")))
+        ended.unwrap_or_else(|| Err(io::Error::other("the dump has ended early")))
     }
 }
 

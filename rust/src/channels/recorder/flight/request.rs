@@ -9,6 +9,7 @@ use crate::channels::channel::{ChannelState, KeptChannel};
 use crate::channels::channel_lock::ChannelLock;
 use crate::channels::events::values;
 use crate::channels::handle::Kind;
+use crate::channels::oneshot::{Sender, channel};
 use crate::core::large_pages::without_giving_back;
 use crate::core::source::rw_law::NoMemory;
 use crate::run::clock::{Moment, now, wall};
@@ -17,7 +18,6 @@ use std::panic::{self, AssertUnwindSafe};
 use std::path::PathBuf;
 use std::sync::Arc;
 use std::sync::atomic::Ordering;
-use std::sync::mpsc::{Sender, channel};
 use std::thread;
 
 /// What called for a journal of the last calls.
@@ -41,7 +41,7 @@ pub(crate) struct DumpRequest {
     /// The channel that it is about, with its calls.
     pub(crate) own: Option<(Arc<ChannelLock<ChannelState>>, KeptChannel)>,
     pub(crate) panic: Option<NotedPanic>,
-    told: Sender<io::Result<PathBuf>>,
+    told: Arc<Sender<io::Result<PathBuf>>>,
     write: WriteDump,
 }
 
@@ -127,7 +127,7 @@ impl DumpRequest {
             began: recorder.times.moment(last),
             own: None,
             panic: None,
-            told,
+            told: Arc::new(told),
             write: flight.write,
         };
         Ok((request, Dump(ended)))
@@ -160,7 +160,7 @@ impl DumpRequest {
             }
             Err(error) => {
                 let (told, ended) = channel();
-                let _ = told.send(Err(error));
+                told.send(Err(error));
                 Dump(ended)
             }
         }
@@ -187,7 +187,7 @@ impl DumpRequest {
         let spawned = named.spawn(write);
         if let Err(error) = spawned {
             let error = io::Error::new(error.kind(), format!("no thread for it: {error}"));
-            let _ = told.send(count(&recorder, Err(error)));
+            told.send(count(&recorder, Err(error)));
         }
     }
 
@@ -196,7 +196,7 @@ impl DumpRequest {
         let DumpRequest { recorder, told, .. } = self;
         let written = count(&recorder.0, written);
         drop(recorder);
-        let _ = told.send(written);
+        told.send(written);
     }
 }
 

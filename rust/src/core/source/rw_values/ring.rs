@@ -18,3 +18,15 @@ pub(crate) fn cell_of(first: usize, count: usize, age: usize) -> usize
     let cell = first + age;
     if cell < count { cell } else { cell - count }
 }
+
+/// Returns the index of the cell after this one.
+#[inline(always)]
+pub(crate) fn next_cell(cell: usize, count: usize) -> usize
+//~     requires cell { cell < count }
+//~     requires small { count ≤ MOST_CAPACITY }
+//~     ensures cell { result ≡ cell_of cell count 1 }
+//~     ensures within { result < count }
+{
+    let next = cell + 1;
+    if next < count { next } else { 0 }
+}

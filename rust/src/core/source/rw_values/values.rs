@@ -7,7 +7,7 @@ use crate::shim::Vec; //+
 //~ ghost use Rattle.rw_values.specs.Stored.{Awaits, CanBeNext, HasRoom, IsAwaited, age, all_given, empty_store, given, given_of, is_last, kept_at, one_less};
 //~ ghost use Rattle.rw_values.specs.Stored.{overwritten, receivers_of, unread_of, value_of, with_left, with_received, with_value};
 
-use crate::source::rw_values::ring::cell_of;
+use crate::source::rw_values::ring::{cell_of, next_cell};
 use crate::source::rw_law::{MOST_WEIGHT, NoMemory};
 use crate::source::rw_ring::MOST_CAPACITY;
 use crate::shim::alloc::Global;
@@ -106,7 +106,7 @@ impl<V/*~: Drop~*/> Values<V> {
             return None;
         }
         let cell = self.first;
-        self.first = cell_of(cell, self.capacity, 1);
+        self.first = next_cell(cell, self.capacity);
         let kept = &mut self.cells[cell];
         kept.receivers = receivers;
         mem::replace(&mut kept.value, value)

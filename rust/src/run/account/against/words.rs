@@ -28,7 +28,7 @@ pub(super) fn lines(here: &Side<'_>, there: &Side<'_>, differing: &[Differing]) 
     };
     let mut lines = vec![head(here, there, first, about.as_ref())];
     let rows = rows(here, there, first, about.as_ref());
-    lines.push_all(aligned(rows.iter()));
+    lines.push_all(aligned(&rows.iter().listed()));
     lines.push(counts);
     lines
 }

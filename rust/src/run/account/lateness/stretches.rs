@@ -1,7 +1,7 @@
 //! The time of a task, in stretches: it is polled, then it waits until it is woken, and then it is
 //! ready until it is polled again.
 
-use crate::run::listed::IntoList;
+use crate::run::listed::PushAll;
 use crate::run::sidecar::SeenTask;
 
 /// What a task does.
@@ -50,7 +50,7 @@ impl Stretch {
 
 /// Returns the stretches from the poll with this index up to the next one. `now` is when all this
 /// was noted.
-fn from_poll(task: &SeenTask, index: usize, now: u64) -> impl Iterator<Item = Stretch> {
+fn from_poll(task: &SeenTask, index: usize, now: u64) -> Vec<Stretch> {
     let poll = &task.polls[index];
     let end = poll.end.unwrap_or(now);
     let polled = (poll.before, poll.last());
@@ -73,30 +73,33 @@ fn from_poll(task: &SeenTask, index: usize, now: u64) -> impl Iterator<Item = St
     );
     let ready = (woken_stamp, to);
     let ready = Stretch::new(TaskDoing::Ready, index, ready, (woken_at, until));
-    let waited = is_after.then_some(waited);
-    let ready = (is_after && woken.is_some()).then_some(ready);
-    [Some(polled), waited, ready].into_iter().flatten()
+    match woken {
+        _ if !is_after => vec![polled],
+        None => vec![polled, waited],
+        Some(_) => vec![polled, waited, ready],
+    }
 }
 
 /// Returns the stretches in which a call with a stamp of this window may have been made.
 pub(super) fn within(task: &SeenTask, window: (u64, u64), now: u64) -> Vec<Stretch> {
     let first = task.polls.partition_point(|poll| poll.before <= window.0);
     let first = first.saturating_sub(1);
-    let polls = task.polls.iter().enumerate().skip(first);
-    let polls = polls.take_while(|(_, poll)| poll.before < window.1);
-    let stretches = polls.flat_map(|(index, _)| from_poll(task, index, now));
+    let mut stretches = vec![];
+    for index in first..task.polls.len() {
+        if task.polls[index].before >= window.1 {
+            break;
+        }
+        let all = from_poll(task, index, now).into_iter();
+        stretches.push_all(all.filter(|stretch| stretch.is_within(window)));
+    }
     stretches
-        .filter(|stretch| stretch.is_within(window))
-        .listed()
 }
 
 /// Returns the stretch in which the call with this stamp would be made.
 pub(super) fn at(task: &SeenTask, stamp: u64, now: u64) -> Option<Stretch> {
     let next = task.polls.partition_point(|poll| poll.before < stamp);
-    let stretches = from_poll(task, next.checked_sub(1)?, now);
-    stretches
-        .filter(|it| it.from < stamp && stamp <= it.to)
-        .last()
+    let mut stretches = from_poll(task, next.checked_sub(1)?, now).into_iter();
+    stretches.rfind(|it| it.from < stamp && stamp <= it.to)
 }
 
 #[cfg(test)]

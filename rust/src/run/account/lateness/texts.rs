@@ -190,25 +190,27 @@ impl<'a> LateTexts<'a> {
         let ((from, to), now) = (stretch.times, self.seen.now);
         // A thread that isn't run for a while has polls of any length.
         let (after, last) = (stretch.from.max(window.0), stretch.to.min(window.1));
-        let spans = |poll: &SeenPoll| poll.before <= after && last <= poll.last();
-        let tasks = self.seen.tasks.iter().enumerate();
-        let tasks = tasks.filter(|(index, _)| *index != own && !self.is_around(*index, own));
-        let ran = tasks.flat_map(|(_, task)| {
-            // Those before have ended before it was ready.
-            let first = task
-                .polls
-                .partition_point(|poll| poll.end.is_some_and(|end| end < from));
-            let polls = task.polls.iter().enumerate().skip(first);
-            let polls = polls.take_while(|(_, poll)| poll.begin <= to);
+        let weigh = |poll: &SeenPoll| {
+            let spans = poll.before <= after && last <= poll.last();
+            let part = poll.end.unwrap_or(now).min(to);
+            let part = part.saturating_sub(poll.begin.max(from));
             // One that began after the last of the calls was in nobody's way.
-            let here = polls.filter(|(_, poll)| poll.thread == thread && poll.before < window.1);
-            here.map(move |(index, poll)| {
-                let (begin, end) = (poll.begin, poll.end.unwrap_or(now));
-                let part = end.min(to).saturating_sub(begin.max(from));
-                (spans(poll), part, begin, (end - begin), task, index)
-            })
-        });
-        let (spans, part, _, time, task, index) = ran.max_by_key(|it| (it.0, it.1, it.2))?;
+            let is_here = poll.thread == thread && poll.before < window.1;
+            is_here.then_some((spans, part, poll.begin))
+        };
+        let mut most: Option<(Weight, &SeenTask, usize)> = None;
+        for (index, task) in self.seen.tasks.iter().enumerate() {
+            let is_other = index != own && !self.is_around(index, own);
+            let heaviest = heaviest(task, stretch.times, &weigh).filter(|_| is_other);
+            if let Some((weight, poll)) =
+                heaviest.filter(|(it, _)| is_most(it, most.map(|it| it.0)))
+            {
+                most = Some((weight, task, poll));
+            }
+        }
+        let ((spans, part, _), task, index) = most?;
+        let poll = &task.polls[index];
+        let time = poll.end.unwrap_or(now) - poll.begin;
         let is_most = spans || part * PART_OF_READY >= stretch.time;
         if !is_most || !self.seen.has_times {
             return None;
@@ -235,6 +237,34 @@ impl<'a> LateTexts<'a> {
         }
         false
     }
+}
+
+/// How much a poll was in the way of a task: whether it spans the calls, for how long it was there
+/// meanwhile, and when it began.
+type Weight = (bool, u64, u64);
+
+fn is_most(weight: &Weight, before: Option<Weight>) -> bool {
+    before.is_none_or(|before| before <= *weight)
+}
+
+/// Returns the poll of a task that was most in the way between these times, as an index.
+fn heaviest(
+    task: &SeenTask,
+    (from, to): (u64, u64),
+    weigh: &dyn Fn(&SeenPoll) -> Option<Weight>,
+) -> Option<(Weight, usize)> {
+    let has_ended = |poll: &SeenPoll| poll.end.is_some_and(|end| end < from);
+    let first = task.polls.partition_point(has_ended);
+    let mut most: Option<(Weight, usize)> = None;
+    for (index, poll) in task.polls.iter().enumerate().skip(first) {
+        if poll.begin > to {
+            break;
+        }
+        if let Some(weight) = weigh(poll).filter(|it| is_most(it, most.map(|it| it.0))) {
+            most = Some((weight, index));
+        }
+    }
+    most
 }
 
 /// Whether anything is known of a place.

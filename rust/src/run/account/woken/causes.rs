@@ -3,10 +3,10 @@
 
 use crate::run::account::history::{ChannelHistory, HandleHistory, History};
 use crate::run::journal::Run;
+use crate::run::listed::{IntoList, PushAll};
 use crate::run::numbered::NumberMap;
-use crate::run::sidecar::Sidecar;
+use crate::run::sidecar::{Sidecar, WaitingCall};
 use crate::run::sorting::sort_by_key;
-use std::iter;
 
 /// What may have woken calls on a channel, as places in their order.
 struct ChannelCauses {
@@ -28,15 +28,15 @@ pub(in super::super) struct Causes {
 impl Causes {
     /// Passes over the entries of a run.
     pub(in super::super) fn of(run: &Run, names: &Sidecar, history: &History) -> Causes {
-        let waits = names.waiting.iter().chain(&names.waited_at_failure);
-        let waits = waits.chain(&names.dropped_waits);
-        let handles = waits.map(|call| (call.channel as u32, call.handle as u32));
         let channels = 0..run.specs().len() as u32;
         let channels = channels.map(|channel| ChannelCauses::of(history.channel(channel)));
         let mut causes = Causes {
-            channels: channels.collect(),
-            looks: handles.map(|handle| (handle, vec![])).collect(),
+            channels: channels.listed(),
+            looks: NumberMap::new(),
         };
+        causes.look_for(&names.waiting);
+        causes.look_for(&names.waited_at_failure);
+        causes.look_for(&names.dropped_waits);
         for (place, entry) in run.entries() {
             if entry.reply.is_change() {
                 causes.channels[entry.channel as usize].sent.push(place);
@@ -46,6 +46,14 @@ impl Causes {
             }
         }
         causes
+    }
+
+    /// Has the calls be found by the handles of these that wait.
+    fn look_for(&mut self, waits: &[WaitingCall]) {
+        for call in waits {
+            let handle = (call.channel as u32, call.handle as u32);
+            self.looks.insert(handle, vec![]);
+        }
     }
 
     fn channel(&self, channel: u32) -> &ChannelCauses {
@@ -89,22 +97,28 @@ impl ChannelCauses {
 }
 
 /// Returns the places at which none of these handles of a channel was alive any more.
-fn none_left(history: &ChannelHistory, are_meant: impl Fn(&HandleHistory) -> bool) -> Vec<u64> {
-    let meant = history.handles().filter(|(_, handle)| are_meant(handle));
-    let mut changes: Vec<(u64, i64)> = meant
-        .flat_map(|(_, handle)| {
-            let dropped = handle.dropped.map(|(place, _)| (place, -1));
-            iter::once((handle.made, 1)).chain(dropped)
-        })
-        .collect();
-    sort_by_key(&mut changes, |change| *change);
-    let mut alive = 0;
-    let places = changes.into_iter().map(|(place, change)| {
+fn none_left(history: &ChannelHistory, are_meant: fn(&HandleHistory) -> bool) -> Vec<u64> {
+    let (mut alive, mut places) = (0, vec![]);
+    for (place, change) in changes(history, are_meant) {
         alive += change;
-        (place, alive)
-    });
-    let places = places.filter(|(_, alive)| *alive == 0);
-    places.map(|(place, _)| place).collect()
+        if alive == 0 {
+            places.push(place);
+        }
+    }
+    places
+}
+
+/// Returns where there is one more of these handles, or one less, in the order of the places.
+fn changes(history: &ChannelHistory, are_meant: fn(&HandleHistory) -> bool) -> Vec<(u64, i64)> {
+    let mut changes = vec![];
+    for (_, handle) in history.handles() {
+        if are_meant(handle) {
+            changes.push((handle.made, 1));
+            changes.push_all(handle.dropped.map(|(place, _)| (place, -1)));
+        }
+    }
+    sort_by_key(&mut changes, |change| *change);
+    changes
 }
 
 /// Returns the first of these places that is behind one place, and at most the other.

@@ -137,7 +137,8 @@ impl Gate {
         let now = state.clock.now();
         let idle = |since: Time| now.since(since.max(turned_at));
         let limit = self.patience * PATIENCE_OF_FUTURES;
-        let late = (state.waiters.values()).find(|waiter| idle(waiter.since) >= limit);
+        let mut waiters = state.waiters.values().into_iter();
+        let late = waiters.find(|waiter| idle(waiter.since) >= limit);
         if let Some(coming) = late.map(|waiter| waiter.coming) {
             return self.diverge(state, CameInstead::Nothing(limit), Some(&coming));
         }

@@ -15,7 +15,7 @@ impl Turns for Gate {
         true
     }
 
-    fn see_maker(&self, name: &Option<String>) {
+    fn see_maker(&self, name: Option<&str>) {
         self.entrance.enter().see_maker(name, Identity::current());
     }
 

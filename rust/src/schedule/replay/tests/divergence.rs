@@ -85,7 +85,7 @@ fn of_two_futures_the_one_that_has_waited_too_long_is_told() {
     let (_, waker, _woken) = told();
     let recv = call(AUDIT, 0, Operation::Recv, 1);
     assert!(!poll(&gate, recv, &mut None, &waker));
-    let since = gate.entrance.lock().waiters.values().next().unwrap().since;
+    let since = gate.entrance.lock().waiters.values()[0].since;
     while gate.entrance.lock().clock.since(since) < Duration::from_millis(25) {
         thread::yield_now();
     }

@@ -20,7 +20,7 @@ fn a_future_is_pending_until_its_turn_and_woken_by_the_helper() {
     let recv = call(AUDIT, 0, Operation::Recv, 1);
     assert!(!poll(&gate, recv, &mut ticket, &waker));
     assert!(!poll(&gate, recv, &mut ticket, &waker));
-    assert_eq!(gate.entrance.lock().waiters.values().count(), 1);
+    assert_eq!(gate.entrance.lock().waiters.values().len(), 1);
     make_first(&gate, 1);
     assert_eq!(woken.recv().unwrap(), "yovanelum-replay");
     assert!(poll(&gate, recv, &mut ticket, &waker));
@@ -144,7 +144,7 @@ fn a_future_that_is_polled_again_has_waited_since_its_first_poll() {
     let (recv, mut ticket) = (call(AUDIT, 0, Operation::Recv, 1), None);
     let since = || {
         let state = gate.entrance.lock();
-        state.waiters.values().next().map(|waiter| waiter.since)
+        state.waiters.values().first().map(|waiter| waiter.since)
     };
     assert!(!poll(&gate, recv, &mut ticket, &waker));
     let first = since().unwrap();

@@ -6,8 +6,10 @@ fn main() {
     let number: u64 = std::env::args().nth(1).unwrap().parse().unwrap();
     let recorder = Recorder::new();
     let _installed = recorder.install();
-    let (sender, _receiver) = broadcast::channel(4);
+    let (sender, receiver) = broadcast::channel(4);
     for value in 0..number {
         sender.send(value).unwrap();
     }
+    // What their drops execute depends on how much was sent, and isn't on a send's way.
+    std::mem::forget((sender, receiver));
 }

@@ -42,7 +42,7 @@ invariant_of-self-2 g c =
       some = ring.some;
       small = ring.small;
       few = omega (arith, as_long, ring.few);
-      within = c.cell_of-self-inside.ensures.within;
+      within = c.next_cell-self-inside.ensures.within;
       young = λ less. absurd (omega (arith, as_long, full, less));
       numbered = omega (arith, as_long, next, ring.numbered);
       kept = All-set IsKept cells i.first sent
@@ -57,9 +57,9 @@ returns-clause-kept g c =
     let full : length cells ≡ i.capacity = omega (arith, c.len.ensures, c.if-len-self.false, c.self.invariant.few) in
     let next = c.args.number + 1 in
     let sent = sent_to c.args.receivers c.args.value in
-    let at : Kept _ → Store _ = λ k. store_of_cells i.capacity c.cell_of-self-inside.result next (set cells i.first k) (vec_capacity i.cells) in
+    let at : Kept _ → Store _ = λ k. store_of_cells i.capacity c.next_cell-self-inside.result next (set cells i.first k) (vec_capacity i.cells) in
     ap (λ o. at (record { receivers = c.args.receivers; value = o })) c.replace.ensures.after
-    ∙ (ap (λ m. store_of_cells i.capacity m next (set cells i.first sent) (vec_capacity i.cells)) c.cell_of-self-inside.ensures.cell
+    ∙ (ap (λ m. store_of_cells i.capacity m next (set cells i.first sent) (vec_capacity i.cells)) c.next_cell-self-inside.ensures.cell
     ∙ (ap (λ l. record (store_of_cells i.capacity i.first next cells (vec_capacity i.cells)) { kept = l })
     (overwrote i.capacity i.first cells sent c.self.invariant.within full)
     ∙ ap (λ s. with_value s c.args.number c.args.receivers c.args.value) c.self.view_is))
