@@ -82,7 +82,7 @@ fn ann_is_the_first() {
 }
 
 /// A clerk bids by what a question returns, which leaves no entry. The receive comes before it, or
-/// after it where the variable says so.
+/// behind all that the clerk does where the variable says so.
 fn a_question_decides() {
     let recorder = Recorder::for_test("ann_is_the_first");
     recorder.quiet_questions();
@@ -90,7 +90,6 @@ fn a_question_decides() {
     recorder.name(&bids, "bids");
     bids.send("Ann").unwrap();
     let (received, is_received) = mpsc::channel();
-    let (asked, is_asked) = mpsc::channel();
     let asks_first = is_set(EDITED, "asks first");
     let clerk = thread::Builder::new().name("clerk".to_string());
     let clerk = clerk.spawn(move || {
@@ -98,18 +97,20 @@ fn a_question_decides() {
             is_received.recv().unwrap();
         }
         let count = bids.len();
-        asked.send(()).unwrap();
         match count {
             0 => drop(bids.subscribe()),
             _ => drop(bids.send("Bob")),
         }
     });
+    let mut clerk = Some(clerk.unwrap());
     if asks_first {
-        is_asked.recv().unwrap();
+        clerk.take().unwrap().join().unwrap();
     }
     assert_eq!(auction.try_recv(), Ok("Ann"));
     let _ = received.send(());
-    clerk.unwrap().join().unwrap();
+    if let Some(clerk) = clerk {
+        clerk.join().unwrap();
+    }
     panic!("it is over");
 }
 
@@ -329,7 +330,7 @@ fn a_replay_that_parts_after_a_quiet_question_names_it() {
     let wanted = format!(
         "`send 0` on `bids` by `clerk` at tests/replayed.rs:{}; before that came `sender-len 0` on `bids` by `clerk` at \
          tests/replayed.rs:{asked}, and after `quiet_questions()` no replay orders what it returns; ",
-        asked + 4
+        asked + 3
     );
     assert!(
         !succeeds && said[0].contains(&wanted),
