@@ -146,16 +146,21 @@ need() {
 
 # Installs Debian's packages. Parts of ./test run side by side, so one waits for the other, and for whoever else installs something.
 install_packages() {
+  local patient=(-o Acquire::Retries=5 -o DPkg::Lock::Timeout=600)
   (
-    flock 9 && apt-get update && DEBIAN_FRONTEND=noninteractive apt-get -o DPkg::Lock::Timeout=600 install -y --no-install-recommends "$@"
+    flock 9 && apt-get "${patient[@]}" update && DEBIAN_FRONTEND=noninteractive apt-get "${patient[@]}" install -y --no-install-recommends "$@"
   ) 9>"$out/packages.lock" </dev/null
 }
+
+# Waits until no other part installs packages: a command or a folder of theirs is there before all that it needs is.
+wait_for_packages() { flock -s "$out/packages.lock" true; }
 
 # Installs the packages of a command that is missing, if that is allowed. If not, `missing` has the message about it.
 # shellcheck disable=SC2034 # Callers read it.
 install_tool() {
   local command=$1
   shift
+  wait_for_packages
   command -v "$command" >/dev/null && return
   echo "${0#"$top/"}: installing $*" >&2
   install_packages "$@" >/dev/null 2>&1

@@ -49,7 +49,7 @@ def journal():
 
 
 def all_read(tab):
-    tab.wait("!document.getElementById('walk').hidden && document.getElementById('walk').getAttribute('aria-busy') === null", 60)
+    tab.wait("!document.getElementById('walk').hidden && document.getElementById('walk').getAttribute('aria-busy') === null")
 
 
 def first_calls(tab, folder, journals):
@@ -59,7 +59,7 @@ def first_calls(tab, folder, journals):
         tab.call("Page.addScriptToEvaluateOnNewDocument", source=source)
     ask = opening.asker(journal())
     tab.load(opening.page_of(folder, "long.journal", journal()), 0)
-    tab.wait("window.first", 60)
+    tab.wait("window.first")
     all_read(tab)
     first = tab.run("window.first")
     assert first["isBusy"] == "true" and first["hasPicture"] and first["last"] == str(CALLS), first
@@ -78,7 +78,7 @@ def far_places(tab, folder, journals):
     """Where the address leads past the first calls, nothing is shown before all is read."""
     tab.call("Page.addScriptToEvaluateOnNewDocument", source=WATCH)
     tab.load(opening.page_of(folder, "long.journal", journal()), CALLS - 5)
-    tab.wait("window.first", 60)
+    tab.wait("window.first")
     assert tab.run("window.first.isBusy") is None
     check_place(tab, opening.asker(journal()), CALLS - 5)
 
@@ -86,10 +86,10 @@ def far_places(tab, folder, journals):
 def late_faults(tab, folder, journals):
     """A fault at the end of a long journal is shown in place of its first calls, and one that is truncated there opens up to its cut."""
     tab.load(opening.page_of(folder, "faulty.journal", journal()[:-4] + b"nonsense\nend\n"))
-    tab.wait("!document.getElementById('refusal').hidden", 60)
+    tab.wait("!document.getElementById('refusal').hidden")
     assert tab.run("document.getElementById('walk').hidden"), "a refused run is shown"
     tab.load(opening.page_of(folder, "cut.journal", journal()[:-20]), 0)
-    tab.wait("!document.getElementById('cut').hidden", 60)
+    tab.wait("!document.getElementById('cut').hidden")
     all_read(tab)
     assert tab.text("place") == "before call 1", tab.text("place")
 
@@ -108,7 +108,7 @@ def packed_by_open(tab, folder, journals):
     tab.call("Page.addScriptToEvaluateOnNewDocument", source=WATCH)
     for number, text in enumerate((page, page.replace(counts, b""))):
         tab.load(opening.put(folder, f"{number}.html", text), 0)
-        tab.wait("window.first", 60)
+        tab.wait("window.first")
         all_read(tab)
         assert tab.run("[first.isBusy, first.last]") == ["true", str(CALLS)]
         assert tab.text("facts").startswith(f"long.journal · {CALLS:,} calls · 2 channels"), tab.text("facts")

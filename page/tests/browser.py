@@ -9,9 +9,28 @@ import subprocess
 import tempfile
 
 
-# How many seconds an answer of the browser is waited for, and less than that in the page for a condition, so that its fault is told.
-PATIENCE = 150
-WAIT = 60
+# How many seconds an answer of the browser is waited for, and less than that in the page for a condition, so that its fault is told. Both only end what
+# hangs: where the machine has much else to do, what takes a second takes a minute.
+PATIENCE = 900
+WAIT = 600
+
+# Counts the requests to the debugger that aren't answered yet.
+COUNT_REQUESTS = """(() => {
+    const { postMessage } = Worker.prototype, known = new WeakSet();
+    window.unanswered = 0;
+    Worker.prototype.postMessage = function (...words) {
+        if (!known.has(this)) this.addEventListener('message', () => { window.unanswered--; });
+        known.add(this);
+        window.unanswered++;
+        return postMessage.apply(this, words);
+    };
+})()"""
+
+# Waits until they are answered, and what is drawn then asks for no more.
+REQUESTS_ARE_ANSWERED = """(async () => {
+    const drawn = () => new Promise(done => requestAnimationFrame(() => setTimeout(done)));
+    for (let times = 0; times < 2; times = window.unanswered === 0 ? times + 1 : 0) await drawn();
+})()"""
 
 # That the page's script runs: it lists the keys first.
 HAS_BEGUN = "document.getElementById('key-list')?.childElementCount !== 0"
@@ -100,6 +119,7 @@ class Tab:
         self.target = target
         for domain in ("Page", "Runtime", "DOM", "Log"):
             self.call(f"{domain}.enable")
+        self.call("Page.addScriptToEvaluateOnNewDocument", source=COUNT_REQUESTS)
         self.resize(width, height)
 
     def call(self, method, **values):
@@ -135,6 +155,10 @@ class Tab:
             const look = () => ({condition}) ? done() : performance.now() > end ? failed(new Error("no end of waiting")) : setTimeout(look, 5);
             look();
         }})""")
+
+    def be_answered(self):
+        """Waits until the debugger has answered all that the page has requested, and the page has drawn it."""
+        self.run(REQUESTS_ARE_ANSWERED)
 
     def text(self, name):
         return self.run(f"document.getElementById({json.dumps(name)}).textContent")

@@ -4,8 +4,8 @@ import time
 
 from browser import HAS_BEGUN
 
-# How many seconds an answer and a condition are waited for.
-PATIENCE = 60
+# How many seconds an answer and a condition are waited for. It only ends what hangs.
+PATIENCE = 600
 
 
 class Driver:

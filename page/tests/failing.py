@@ -29,7 +29,8 @@ tokio = {{ version = "=1.24.2", default-features = false, features = ["rt-multi-
 [workspace]
 """
 CARGO = ["cargo", "test", "--offline", "--test", "failing"]
-PATIENCE = 600
+# How many seconds cargo may take. It only ends what hangs.
+PATIENCE = 1800
 HANGS = "the_state_is_ready"
 # Its journal has as many calls as a journal takes, too many to walk through.
 FULL = "the_last_tick_arrives"
@@ -582,7 +583,7 @@ def page_of_test(name):
     def test(tab, folder, journals):
         page, place = addresses()[name]
         account = check_account(name, page)
-        opening.load(tab, page, place, 120 if name == FULL else opening.PATIENCE)
+        opening.load(tab, page, place)
         check_order(tab, name, page)
         check_answer(tab, account)
         check_page(tab, name)

@@ -110,7 +110,7 @@ SEARCH = "document.querySelector('#stops [value=rforward]').click()"
 def hurried(tab, *pressed):
     """Searches and presses keys, each before the page has finished with the last one, and waits until it has finished with all."""
     tab.run(f"void ({', '.join(SEARCH if key == 'search' else PRESS.format(key) for key in pressed)})")
-    tab.run("ttd.ask('').then(() => ttd.ask('')).then(() => new Promise(done => setTimeout(done, 100)))")
+    tab.be_answered()
 
 
 def hurried_searches(tab, folder, journals):

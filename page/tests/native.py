@@ -13,7 +13,7 @@ PICTURES = os.path.join(os.environ.get("YOVANELUM_OUT", os.path.join(TOP, "out")
 
 def answer(words, given=b""):
     """What the program writes."""
-    return subprocess.run([PROGRAM, *words], input=given, stdout=subprocess.PIPE, stderr=subprocess.DEVNULL, timeout=60).stdout
+    return subprocess.run([PROGRAM, *words], input=given, stdout=subprocess.PIPE, stderr=subprocess.DEVNULL, timeout=600).stdout
 
 
 def session(script):

@@ -7,8 +7,6 @@ import subprocess
 import native
 
 NEWEST = 16
-# How many seconds are waited at most for what a busy machine takes long for.
-PATIENCE = 60
 OPEN = os.path.join(native.TOP, "page", "open")
 
 
@@ -25,22 +23,22 @@ def page_of(folder, name, data):
     return made.stdout.decode().rstrip("\n")
 
 
-def load(tab, path, place=0, seconds=PATIENCE):
+def load(tab, path, place=0):
     """Opens a page at a place. Without one in the address, a run is opened where its account says: `load_first`."""
     tab.load(path, place)
-    settle(tab, place, seconds)
+    settle(tab, place)
 
 
-def load_first(tab, path, seconds=PATIENCE):
+def load_first(tab, path):
     tab.load(path)
-    settle(tab, None, seconds)
+    settle(tab)
 
 
-def settle(tab, place=None, seconds=PATIENCE):
+def settle(tab, place=None):
     """Waits until a run is shown, and not its beginning alone, with what is counted in it, and the state at its place."""
     shown = ("!document.getElementById('walk').hidden && !['walk', 'losses'].some(it => document.getElementById(it).hasAttribute('aria-busy'))"
              " && document.getElementById('state').dataset.place")
-    tab.wait(f"{shown} !== undefined" if place is None else f"{shown} === '{place}'", seconds)
+    tab.wait(f"{shown} !== undefined" if place is None else f"{shown} === '{place}'")
 
 
 def settle_at_start(tab):

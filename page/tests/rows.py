@@ -168,10 +168,11 @@ def heads_over_rows(tab, folder, journals):
     """What is drawn about the place stays below the head that covers the rows as they are scrolled."""
     opening.load(tab, opening.page_of(folder, "wide.journal", wide()), 2_500)
     tab.key("End")
-    tab.run("ttd.ask('')")
+    tab.be_answered()
     covered = 0
     for top in range(50_000, 50_030, 5):
         tab.run(f"void (document.getElementById('pane').scrollTop = {top})")
+        tab.be_answered()
         covered += sum(0 < y < HEAD for _, _, y, _ in drawn(tab, "cursor"))
         assert tab.run(f"{OVER_HEAD}({GUTTER}, {HEAD - 1})") == 0, top
     assert covered > 0, "no row was behind the head"
@@ -190,7 +191,7 @@ def same_order(tab, folder, journals):
     assert [text for text, _ in first][:4] == ["publisher · sender 0", "main · receiver 1", "ui · receiver 2", "metrics · receiver 3"], first
     for key in ("-", "-", "0", "+", "+", "End", "Home", "PageDown"):
         tab.key(key)
-        tab.run("ttd.ask('')")
+        tab.be_answered()
         assert order_of_rows(tab) == first, (key, order_of_rows(tab))
     opening.load(tab, path, 300)
     assert drawn(tab, "cursor") and all(x + width <= GUTTER for _, x, _, width in drawn(tab, "cursor")), drawn(tab, "cursor")

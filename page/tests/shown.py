@@ -89,7 +89,7 @@ def hostile_names(tab, folder, journals):
     assert HOSTILE[2] in tab.text("legend")
     for _ in range(3):
         tab.key("l")
-    tab.run("new Promise(done => setTimeout(done, 100))")
+    tab.be_answered()
     assert tab.run(MARKUP) == [0, 1 + OWN_SCRIPTS, False]
 
 
@@ -144,7 +144,7 @@ def quick_walking(tab, folder, journals):
     for key in ["PageDown"] * 5 + ["-", "-", "PageUp", "-", "PageDown", "+"]:
         tab.call("Input.dispatchKeyEvent", type="keyDown", key=key)
     opening.settle(tab, tab.run("document.getElementById('slider').valueAsNumber"))
-    tab.run("new Promise(done => setTimeout(done, 1000))")
+    tab.be_answered()
     drawn = "document.getElementById('picture').toDataURL()"
     shown = tab.run(drawn)
     tab.run("void dispatchEvent(new Event('resize'))")

@@ -1,7 +1,8 @@
-"""How long opening and stepping take. The figures are printed, and on an idle machine they have to be within what is promised."""
+"""How long opening and stepping take. The figures are printed, and have to be within what is promised: by the clock, as far as the machine did nothing else
+meanwhile, and in any case by the time that processors took for the page, which a busy machine changes less."""
 import json
 import os
-import time
+import typing
 import zlib
 
 import native
@@ -12,7 +13,8 @@ import search
 from browser import Browser, Tab
 
 MANY = 30
-OPENINGS = 5
+# How often is tried what takes longer than it may: other work may slow down one of them.
+TRIES = 5
 
 # For the number of calls of a run: the seconds that opening it may take on an idle machine, and a step in it.
 PROMISED = {63: (0.3, 0.03), 10_000: (0.3, 0.03), 100_000: (0.6, 0.04)}
@@ -20,9 +22,9 @@ PROMISED = {63: (0.3, 0.03), 10_000: (0.3, 0.03), 100_000: (0.6, 0.04)}
 # The number of calls of a long run, and the seconds until its first calls are shown.
 LONG, FIRST_PAINT = 1_000_000, 2
 
-# The factor by which all these may be exceeded on an idle machine, which may be a slower one than ours, and else; and the idle share from which
-# on it counts as idle.
-MARGIN, BUSY = 2, 50
+# The factor by which all these may be exceeded by the clock on a machine that does nothing else, which may be a slower one than ours; and the share of the
+# machine from which on that counts as nothing else.
+MARGIN = 2
 IDLE = 0.8
 
 # By the channels, actors and calls of a pool, the seconds of processors that the tab may take until its first picture, from there until what is
@@ -63,34 +65,73 @@ STEPS = f"""(async () => {{
 }})()"""
 
 
-def idle_and_all():
-    """The idle time of the machine so far, and all of its time."""
+class Took(typing.NamedTuple):
+    """What something took: seconds of the clock, and of processors in the tab's process. And the share of the machine that had no other work meanwhile."""
+    clock: float
+    processors: float
+    idle: float
+
+
+def told_of(process):
+    """What the system says of a process behind its name, from its state on."""
+    with open(f"/proc/{process}/stat", encoding="utf-8") as stat:
+        return stat.read().rsplit(")", 1)[1].split()
+
+
+def worked_for(browser):
+    """How long processors have worked for the processes of a browser so far, in ticks."""
+    ticks = 0
+    for name in filter(str.isdigit, os.listdir("/proc")):
+        try:
+            if descends(int(name), browser.process.pid):
+                ticks += sum(map(int, told_of(name)[11:13]))
+        except OSError:
+            continue
+    return ticks
+
+
+def free_and_all(browser):
+    """How long the processors have had nothing to do so far, or worked for this browser, and all of their time, in ticks."""
     with open("/proc/stat", encoding="ascii") as file:
         times = [int(it) for it in file.readline().split()[1:]]
-    return times[3] + times[4], sum(times)
+    return times[3] + times[4] + worked_for(browser), sum(times)
 
 
-def idle_share():
-    """The share of half a second in which the machine is idle."""
-    idle, all_of_it = idle_and_all()
-    time.sleep(0.5)
-    idle_then, all_then = idle_and_all()
-    return (idle_then - idle) / (all_then - all_of_it)
+def measured(tab, act):
+    """What something takes that returns its seconds by the clock."""
+    free, all_of_it = free_and_all(tab.browser)
+    since = processor_seconds(tab)
+    clock = act()
+    processors = processor_seconds(tab) - since
+    free_then, all_then = free_and_all(tab.browser)
+    return Took(clock, processors, (free_then - free) / max(1, all_then - all_of_it))
+
+
+def least_of(tries):
+    """The least of several tries: by the clock of those while the machine had no other work, if there are any."""
+    undisturbed = [it.clock for it in tries if it.idle >= IDLE]
+    return Took(min(undisturbed or [it.clock for it in tries]), min(it.processors for it in tries), max(it.idle for it in tries))
+
+
+def is_within(took, most):
+    return took.processors < PROCESSOR_MARGIN * most and (took.idle < IDLE or took.clock < MARGIN * most)
+
+
+def least(tab, act, most):
+    """What something takes that returns its seconds by the clock. It is tried again while it takes more than it may."""
+    tries = [measured(tab, act)]
+    while not is_within(least_of(tries), most) and len(tries) < TRIES:
+        tries.append(measured(tab, act))
+    return least_of(tries)
 
 
 def opened(tab, path, most):
-    """The seconds until the state at the first place is shown: the least of several openings, since other work may slow one. None follows
-    one that takes less than it may."""
-    times = []
-    while not times or min(times) >= most and len(times) < OPENINGS:
-        opening.load(tab, path)
-        times.append(tab.run("window.shownAt") / 1000)
-    return min(times)
-
-
-def factor(idle):
-    """How much longer than promised it may take."""
-    return MARGIN if idle >= IDLE else BUSY
+    """What it takes until the state at the first place is shown."""
+    def act():
+        tab.load(path, 0)
+        tab.wait("window.shownAt")
+        return tab.run("window.shownAt") / 1000
+    return least(tab, act, most)
 
 
 def processor_seconds(tab):
@@ -101,8 +142,7 @@ def processor_seconds(tab):
 def descends(process, ancestor):
     """Whether a process was started by another, or by one that this has started."""
     while process > 1 and process != ancestor:
-        with open(f"/proc/{process}/stat", encoding="utf-8") as stat:
-            process = int(stat.read().rsplit(")", 1)[1].split()[1])
+        process = int(told_of(process)[1])
     return process == ancestor
 
 
@@ -126,8 +166,8 @@ def seek(tab, text):
     tab.wait(f"/^(hit|no call) /.test({search.HIT}) && {IS_SHOWN}")
 
 
-def pool(tab, folder, size, promised):
-    """What a pool with a text for each value takes of processors, which a busy machine changes less than the time that passes, and of memory."""
+def pool(tab, folder, size):
+    """What a pool with a text for each value takes of processors, and of memory, and how many times as many bytes its page has as its packed journal."""
     tab.call("Page.addScriptToEvaluateOnNewDocument", source=WATCH)
     tab.call("Performance.enable")
     journal, names = real_runs.pool_of(*size)
@@ -151,10 +191,27 @@ def pool(tab, folder, size, promised):
         took[name], since = until - since, until
     megabytes = most_megabytes(tab.browser)
     print(f"  {size[2]:,} calls on {size[0]} channels, seconds of processors: " + ", ".join(f"{name} {taken:.2f}" for name, taken in took.items())
-          + f"; {megabytes} MB; the file {os.path.getsize(path) / 1e6:.1f} MB, of the packed journal {os.path.getsize(path) / packed:.2f}")
-    assert all(took[name] < PROCESSOR_MARGIN * most for name, most in promised.items()), "takes more of processors than it may"
-    assert megabytes <= MOST_MEGABYTES, "takes more of memory than it may"
-    assert size[2] < LONG or os.path.getsize(path) <= MOST_OF_PACKED * packed, "the file has more bytes than it may"
+          + f"; {megabytes} MB; the file {os.path.getsize(path) / 1e6:.1f} MB, of the packed journal {os.path.getsize(path) / packed:.2f}", flush=True)
+    return took, megabytes, os.path.getsize(path) / packed
+
+
+def check_pool(tab, folder, size, promised):
+    """What a pool takes is within what it may: the least of some tries, each in a browser of its own, since a process that has had another run has its memory
+    too."""
+    tries = []
+    while len(tries) < TRIES and not (tries and is_pool_within(tries, promised)):
+        browser = Browser(tab.browser.program)
+        try:
+            tries.append(pool(Tab(browser), folder, size))
+        finally:
+            browser.close()
+    assert is_pool_within(tries, promised), "takes more of processors or of memory than it may"
+    assert size[2] < LONG or tries[0][2] <= MOST_OF_PACKED, "the file has more bytes than it may"
+
+
+def is_pool_within(tries, promised):
+    of_processors = all(min(took[name] for took, _, _ in tries) < PROCESSOR_MARGIN * most for name, most in promised.items())
+    return of_processors and min(megabytes for _, megabytes, _ in tries) <= MOST_MEGABYTES
 
 
 # How many bytes of a script's memory a call may take for its texts and its place in the sources, on top of a run without them.
@@ -191,40 +248,45 @@ def names_take_little(tab, folder, journals):
     tab.wait(f"/^hit [0-9,]+ of {hits:,}(,|$)/.test({search.HIT})")
 
 
-def mean_step(tab):
-    times = tab.run(STEPS)
-    return sum(times) / len(times) / 1000
+def mean_step(tab, most):
+    """What one of many steps takes."""
+    def act():
+        tab.key("Home")
+        opening.settle(tab, 0)
+        return sum(tab.run(STEPS)) / 1000
+    took = least(tab, act, MANY * most)
+    return Took(took.clock / MANY, took.processors / MANY, took.idle)
+
+
+def told(took):
+    return f"{1000 * took.clock:.0f} ms, of processors {1000 * took.processors:.0f} ms"
 
 
 def first_paint(tab, folder):
     """The first calls of a long run are shown soon, and later all of it."""
     path = opening.page_of(folder, "speed_long.journal", native.record(runs.large(LONG)))
-    idle = idle_share()
-    time_of_first = opened(tab, path, factor(idle) * FIRST_PAINT)
-    tab.wait("document.getElementById('walk').getAttribute('aria-busy') === null", 120)
+    first = opened(tab, path, FIRST_PAINT)
+    tab.wait("document.getElementById('walk').getAttribute('aria-busy') === null")
     all_read = tab.run("performance.now()") / 1000
-    print(f"  {LONG:,} calls: first paint {time_of_first:.2f} s, all read {all_read:.2f} s; {100 * idle:.0f} % of the machine were idle")
-    assert time_of_first < factor(idle) * FIRST_PAINT, "slower than it may be"
+    print(f"  {LONG:,} calls: first paint {told(first)}; all read {all_read:.2f} s; {100 * first.idle:.0f} % of the machine did nothing else")
+    assert is_within(first, FIRST_PAINT), "slower than it may be"
 
 
 def figures(tab, folder, journals):
     """Opening, and steps in the window as it opens and in the whole run; and the first paint of a long run."""
     tab.call("Page.addScriptToEvaluateOnNewDocument", source=WATCH)
+    tab.call("Performance.enable")
     for calls, (most_open, most_step) in PROMISED.items():
         path = opening.page_of(folder, f"speed_{calls}.journal", journals[calls])
-        idle = idle_share()
-        open_time, near = opened(tab, path, factor(idle) * most_open), mean_step(tab)
+        first = opened(tab, path, most_open)
+        opening.settle(tab, 0)
+        near = mean_step(tab, most_step)
         tab.key("0")
         tab.wait(f"document.getElementById('picture').getAttribute('aria-label').includes('The start and calls 1 to {calls},')")
-        far = mean_step(tab)
-        print(f"  {calls:,} calls: open {open_time:.2f} s, a step {1000 * near:.1f} ms, in the whole run {1000 * far:.1f} ms; "
-              f"{100 * idle:.0f} % of the machine were idle")
-        assert open_time < factor(idle) * most_open and max(near, far) < factor(idle) * most_step, "slower than it may be"
+        far = mean_step(tab, most_step)
+        print(f"  {calls:,} calls: open {told(first)}; a step {told(near)}, in the whole run {told(far)}; "
+              f"{100 * min(first.idle, near.idle, far.idle):.0f} % of the machine did nothing else")
+        assert is_within(first, most_open) and is_within(near, most_step) and is_within(far, most_step), "slower than it may be"
     first_paint(tab, folder)
     for size, promised in POOLS.items():
-        # In a browser of its own, since a process that has had another run has its memory too.
-        browser = Browser(tab.browser.program)
-        try:
-            pool(Tab(browser), folder, size, promised)
-        finally:
-            browser.close()
+        check_pool(tab, folder, size, promised)

@@ -14,6 +14,10 @@ import smoke
 from driver import PATIENCE, Driver
 
 
+# How often a port is tried: another process may take one before the driver listens there.
+TRIES = 5
+
+
 def free_port():
     with socket.socket() as link:
         link.bind(("127.0.0.1", 0))
@@ -41,23 +45,27 @@ class WebKit(Driver):
 
     def __init__(self, driver):
         self.display = Display()
+        self.session = ""
+        answers = (self.first_answer(driver) for _ in range(TRIES))
+        answer = next((it for it in answers if it is not None), None)
+        assert answer, "the driver of WebKit doesn't listen"
+        self.session = f"/session/{answer['sessionId']}"
+        self.call("window/rect", x=0, y=0, width=1440, height=920)
+
+    def first_answer(self, driver):
+        """Starts the driver, and begins a session once it listens. Returns nothing if it has ended before."""
         self.port = free_port()
         self.process = subprocess.Popen([driver, f"--port={self.port}"], env={**os.environ, "DISPLAY": self.display.name}, stdin=subprocess.DEVNULL,
                                         stdout=subprocess.DEVNULL, stderr=subprocess.DEVNULL)
-        self.session = ""
-        self.session = f"/session/{self.first_answer()['sessionId']}"
-        self.call("window/rect", x=0, y=0, width=1440, height=920)
-
-    def first_answer(self):
-        """Begins a session once the driver listens."""
         end = time.monotonic() + PATIENCE
-        while True:
+        while self.process.poll() is None:
             try:
                 return self.call("session", capabilities={})
             except urllib.error.URLError:
-                if time.monotonic() > end or self.process.poll() is not None:
+                if time.monotonic() > end:
                     raise
                 time.sleep(0.05)
+        return None
 
     def call(self, command, **values):
         request = urllib.request.Request(f"http://127.0.0.1:{self.port}{self.session}/{command}", json.dumps(values).encode(),

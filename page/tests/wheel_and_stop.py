@@ -17,19 +17,25 @@ TURNS = [
 ]
 
 
-def turn(tab, box, sideways, down, modifiers):
-    """Turns the wheel in the middle of an element, and waits until the page has drawn the result."""
+# Counts the turns that the page was told of. The browser may say that one is over before the page is.
+COUNT_TURNS = "void (window.turns = 0, addEventListener('wheel', () => { window.turns++; }, { passive: true }))"
+
+
+def turn(tab, number, box, sideways, down, modifiers):
+    """Turns the wheel in the middle of an element, and waits until the page was told of this turn and has drawn the result."""
     left, top, width, height = tab.box(box)
     tab.mouse("mouseWheel", left + width / 2, top + height / 2, deltaX=sideways, deltaY=down, modifiers=modifiers)
-    tab.run("ttd.ask('').then(() => new Promise(done => requestAnimationFrame(() => setTimeout(done, 50))))")
+    tab.wait(f"window.turns === {number}")
+    tab.be_answered()
 
 
 def wheel(tab, folder, journals):
     """The wheel scrolls through time over the strip, and over the picture sideways or with Shift; with Ctrl over the strip it zooms. The place stays."""
     opening.load(tab, opening.page_of(folder, "wheel.journal", journals[10_000]))
     assert places_in_view(tab) == [0, 64]
-    for number, (box, sideways, down, modifiers, wanted) in enumerate(TURNS):
-        turn(tab, box, sideways, down, modifiers)
+    tab.run(COUNT_TURNS)
+    for number, (box, sideways, down, modifiers, wanted) in enumerate(TURNS, 1):
+        turn(tab, number, box, sideways, down, modifiers)
         assert places_in_view(tab) == wanted, (number, places_in_view(tab))
     check_place(tab, opening.asker(journals[10_000]), 0)
 

@@ -17,7 +17,7 @@ const TEST: &str = "the_program_prints_what_the_guide_has_of_it";
 
 /// How often the program may be run until its auditor is as late as in the guide. It sleeps, but
 /// another thread may be even slower.
-const TRIES: usize = 20;
+const TRIES: usize = 100;
 
 #[rustfmt::skip]
 fn program() {

@@ -63,6 +63,18 @@ fn played() -> (usize, usize) {
     (channels.call(), channels.call())
 }
 
+/// How often memory is looked at, at most. Threads of the harness allocate too, as where another
+/// test begins to wait for its turn, so the best look is judged.
+const LOOKS: usize = 20;
+
+/// The same where more calls take nothing more. Returns the bytes after the first time.
+fn played_without_more() -> usize {
+    // What a thread or the process allocates once is allocated at first.
+    let mut looks = (0..LOOKS).map(|_| played()).skip(1);
+    let found = looks.find(|(first, both)| first == both);
+    found.expect("calls that take nothing more").0
+}
+
 /// The most memory of a channel without entries: room for 65,536 handles of 16 bytes, which a list
 /// that grows exceeds by up to a half.
 const MOST_OF_A_CHANNEL: usize = 65_536 * 24;
@@ -73,17 +85,13 @@ const ENTRY: usize = 64;
 #[test]
 fn what_is_not_recorded_takes_no_memory_for_entries() {
     let _alone = alone();
-    // What a thread or the process allocates once is allocated here.
-    played();
-    let (plain, plain_after_more) = played();
+    let plain = played_without_more();
     let recorder = Recorder::new();
     let _entered = recorder.enter();
     let off = Recorder::off().enter();
-    let (under_off, under_off_after_more) = played();
+    let under_off = played_without_more();
     drop(off);
     let (recorded, _) = played();
-    // More calls take nothing more.
-    assert_eq!((plain, under_off), (plain_after_more, under_off_after_more));
     for bytes in [plain, under_off] {
         assert!(bytes < 2 * COUNT * MOST_OF_A_CHANNEL, "{bytes} bytes");
     }
@@ -97,6 +105,11 @@ fn what_is_not_recorded_takes_no_memory_for_entries() {
 
 /// Returns how many bytes a channel has, with its two handles, of those that this opens.
 fn bytes_of_each<H>(is_recorded: bool, open: impl Fn() -> H) -> usize {
+    let looks = (0..LOOKS).map(|_| bytes_of_pairs(is_recorded, &open));
+    looks.min().unwrap()
+}
+
+fn bytes_of_pairs<H>(is_recorded: bool, open: impl Fn() -> H) -> usize {
     const PAIRS: usize = 60;
     // A recorder has 64 channels.
     let recorder = is_recorded.then(Recorder::new);
@@ -157,7 +170,8 @@ fn a_recorder_is_served_by_the_memory_of_those_that_ended() {
         }
         faults() - before
     };
-    let [_, _, third] = [(); 3].map(|()| faults_of_one());
-    // The calls alone are 2,188 pages, or 512 and a few large ones.
-    assert!(third < 256, "{third} faults");
+    // The calls alone are 2,188 pages, or 512 and a few large ones. A system that is short of
+    // memory takes pages away at times, so the best of those behind the second is judged.
+    let mut faults = (0..LOOKS).map(|_| faults_of_one()).skip(2);
+    assert!(faults.any(|faults| faults < 256));
 }

@@ -10,12 +10,16 @@ use std::fs;
 use support::Random;
 use yovanelum::{Recorder, broadcast};
 
-/// How many KiB of this process are in memory.
-fn resident() -> usize {
+/// How many KiB this process has written to, in memory or swapped out. Pages of files aren't
+/// counted, since a system that is short of memory drops them, and reads them again.
+fn written() -> usize {
     let sizes = fs::read_to_string("/proc/self/smaps_rollup").unwrap();
-    let line = sizes.lines().find_map(|line| line.strip_prefix("Rss:"));
-    let size = line.unwrap().trim().strip_suffix(" kB");
-    size.unwrap().parse().unwrap()
+    let size = |name: &str| -> usize {
+        let line = sizes.lines().find_map(|line| line.strip_prefix(name));
+        let size = line.unwrap().trim().strip_suffix(" kB");
+        size.unwrap().parse().unwrap()
+    };
+    size("Anonymous:") + size("Swap:")
 }
 
 type Channel = (broadcast::Sender<u32>, broadcast::Receiver<u32>);
@@ -42,9 +46,9 @@ fn blocks_that_come_and_go_take_no_more_memory() {
     // Each chunk copies a table of handles, whose block grows with the sends to a mebibyte and
     // more, and of which little is filled.
     use_some(&mut channels, &mut random, 50_000);
-    let before = resident();
+    let before = written();
     use_some(&mut channels, &mut random, 200_000);
-    let more = resident().saturating_sub(before);
+    let more = written().saturating_sub(before);
     // It is 2,300 and more where a copy keeps what others have written to its block.
     assert!(more < 512, "{more} KiB more");
 }

@@ -13,6 +13,8 @@ use std::thread::{self, JoinHandle};
 use std::time::Duration;
 #[cfg(target_os = "linux")]
 use std::{io::Write, process::Stdio, time::Instant};
+#[cfg(target_os = "linux")]
+use support::LONG;
 use support::parts::{
     Folder, files, is_part, line_after, quoted, replay_line, started, without_options,
 };
@@ -470,7 +472,7 @@ fn wait_for_ann(process: u32, state: char) {
         let stat = fs::read_to_string(thread.join("stat")).ok()?;
         stat.rsplit_once(") ")?.1.chars().next()
     };
-    while began.elapsed() < Duration::from_secs(60) {
+    while began.elapsed() < LONG {
         let threads = fs::read_dir(format!("/proc/{process}/task")).unwrap();
         let mut threads = threads.map(|thread| thread.unwrap().path());
         if threads.find(is_ann).and_then(state_of) == Some(state) {

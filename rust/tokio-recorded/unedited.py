@@ -221,7 +221,7 @@ def environment(**more):
 
 def run(line, folder=SHOP, **more):
     """What a command prints in a folder, and its status."""
-    ran = subprocess.run(line, shell=True, cwd=folder, env=environment(**more), text=True, stdout=subprocess.PIPE, stderr=subprocess.STDOUT, timeout=900)
+    ran = subprocess.run(line, shell=True, cwd=folder, env=environment(**more), text=True, stdout=subprocess.PIPE, stderr=subprocess.STDOUT, timeout=1800)
     return ran.stdout, ran.returncode
 
 

@@ -3,9 +3,10 @@
 
     tools/prices/compiling.py [CHECKOUT]
 
-Both are compiled at the same time on one processor, so what else the machine does slows down both. It prints one line, and fails if the crate takes
-more than 1.2 times what the last row `price.compiling` of `docs/design/figures.csv` says. It needs Debian's librust-tokio-dev, and writes only into
-out/prices, or into the folder that YOVANELUM_OUT names.
+Both are compiled at the same time on one processor, so what else the machine does slows down both. It prints a line, and fails if the crate takes more
+than 1.2 times what the last row `price.compiling` of `docs/design/figures.csv` says. Where it does, both are compiled again, up to three times in all, and
+the least counts: what else the machine does may begin while one of them is compiled. It needs Debian's librust-tokio-dev, and writes only into out/prices,
+or into the folder that YOVANELUM_OUT names.
 """
 import contextlib
 import csv
@@ -18,6 +19,7 @@ TOP = os.path.dirname(os.path.dirname(os.path.dirname(os.path.realpath(__file__)
 REGISTRY = "/usr/share/cargo/registry"
 TOKIO = 'tokio = { version = "=1.24.2", features = ["full"] }'
 MARGIN = 1.2
+TIMES = 3
 
 
 def from_registry():
@@ -58,12 +60,18 @@ def figure():
         return [float(row[4]) for row in csv.reader(file) if row[3] == "price.compiling"][-1]
 
 
-def main():
+def ratio_of_a_turn(most):
+    """How many times as long as tokio the crate takes. It is printed, beside the most that it may."""
     out = os.path.join(os.environ.get("YOVANELUM_OUT") or os.path.join(TOP, "out"), "prices")
     took = compiled(sys.argv[1] if len(sys.argv) > 1 else TOP, {}, out)
-    ratio, most = took["none"] / took["tokio"], MARGIN * figure()
-    print(f"to compile takes {took['none']:.1f} s of a processor, and tokio {took['tokio']:.1f} s: {ratio:.2f} times, and at most {most:.2f}")
-    return 0 if ratio <= most else 1
+    ratio = took["none"] / took["tokio"]
+    print(f"to compile takes {took['none']:.1f} s of a processor, and tokio {took['tokio']:.1f} s: {ratio:.2f} times, and at most {most:.2f}", flush=True)
+    return ratio
+
+
+def main():
+    most = MARGIN * figure()
+    return 0 if any(ratio_of_a_turn(most) <= most for _ in range(TIMES)) else 1
 
 
 if __name__ == "__main__":

@@ -25,10 +25,11 @@ mod table;
 mod timed;
 
 use json::{best_of_ten, hangs, number, text};
+use std::cell::Cell;
 use std::path::{Path, PathBuf};
 use std::process::{Command, Output};
 use std::sync::atomic::{AtomicU32, Ordering};
-use std::{env, fs, process};
+use std::{env, fs, panic, process};
 
 /// Declares a test for each program, which is explored by others. Those of the table come first.
 macro_rules! programs {
@@ -225,6 +226,21 @@ fn assert_found(name: &'static str, lines: &[&str]) {
     assert_brought_back(name, lines, 10);
 }
 
+/// How many sessions a program has at most where chance decides something in each.
+const SESSIONS: u32 = 12;
+
+/// Asserts something of a session of a program in which not all is chosen: the machine's clock goes
+/// on while tasks are held or wait for a processor, and which worker polls what is the runtime's
+/// choice. On a machine that is busy, a run may then be another one than its order says. So a
+/// session that isn't right is made again from anew, and the best of some is judged. A fault of the
+/// tool is one of each session.
+fn assert_in_some_session(session: impl Fn()) {
+    let is_right = || panic::catch_unwind(panic::AssertUnwindSafe(&session)).is_ok();
+    if !(1..SESSIONS).any(|_| is_right()) {
+        session();
+    }
+}
+
 /// Asserts that a report says that a timer has ended: by a choice or, on a machine that is busy, by
 /// the machine's clock while tasks were held.
 fn assert_tells_time(said: &str) {
@@ -340,8 +356,10 @@ fn an_order_of_polls_is_found_and_brought_back_by_the_schedule() {
 
 #[test]
 fn time_is_a_choice_without_a_search_too() {
-    let (passes, said, _) = Program::new("heart_and_monitor").explored(200, "1000");
-    assert!(!passes && said.contains("  time passed at step "), "{said}");
+    assert_in_some_session(|| {
+        let (passes, said, _) = Program::new("heart_and_monitor").explored(200, "1000");
+        assert!(!passes && said.contains("  time passed at step "), "{said}");
+    });
 }
 
 #[test]
@@ -450,15 +468,16 @@ fn a_guard_explores_the_test_whose_channels_are_made_behind_it() {
 
 #[test]
 fn time_never_passes_where_it_may_not() {
-    let program = Program::new("heart_and_monitor");
-    let ran = program
-        .command()
-        .env("YOVANELUM_EXPLORE", "12")
-        .env("YOVANELUM_EXPLORE_TIME", "never")
-        .env("YOVANELUM_EXPLORE_JOBS", "1")
-        .output()
-        .unwrap();
-    assert!(ran.status.success(), "{}", said(&ran));
+    let has_passed = Cell::new(false);
+    assert_in_some_session(|| {
+        let never = [("YOVANELUM_EXPLORE_TIME", "never")];
+        let program = Program::new("heart_and_monitor");
+        let (passes, said, _) = program.explored_with(&never, 12, "0");
+        has_passed.set(has_passed.get() || said.contains("  time passed at step "));
+        assert!(passes, "{said}");
+    });
+    // That is no matter of the machine's clock.
+    assert!(!has_passed.get());
 }
 
 #[test]

@@ -245,7 +245,7 @@ mod tests {
             over.send(()).unwrap();
         });
         drop(is_running);
-        is_over.recv_timeout(Duration::from_secs(30)).unwrap();
+        is_over.recv_timeout(Duration::from_secs(600)).unwrap();
         assert!(!path.exists());
     }
 }

@@ -2,13 +2,12 @@
 //! both use one clock from then on, of which the first one has to know.
 
 use crate::noted::Noted;
-use crate::support::{accepted, poll_once};
+use crate::support::{LONG, accepted, poll_once};
 use std::pin::pin;
 use std::sync::Arc;
 use std::sync::mpsc;
 use std::task::{Context, Poll, Wake};
 use std::thread;
-use std::time::Duration;
 use yovanelum::{Lag, Recorder, broadcast, show, watch};
 
 /// Creates a channel, sends on it and receives.
@@ -52,7 +51,7 @@ fn recorded(calls: impl FnOnce(&Recorder) + Send + 'static, title: &str) -> u64 
         drop(entered);
         done.send(recorder)
     });
-    let recorder = ended.recv_timeout(Duration::from_secs(60));
+    let recorder = ended.recv_timeout(LONG);
     let recorder = recorder.expect("the calls end");
     running.join().unwrap().unwrap();
     accepted(&recorder, title)

@@ -372,10 +372,13 @@ fn the_lists_of_a_chunk_take_the_memory_of_those_that_are_forgotten() {
     // Each chunk has 5,000 dropped handles, which are taken out at its end.
     let chunks = |count: u32| (0..count * 5_000).for_each(|_| drop(prices.subscribe()));
     chunks(4);
-    let before = page_faults();
-    chunks(20);
-    let more = page_faults() - before;
-    // It is 2,300 where the memory of these lists is given back, and some hundreds where the
-    // allocator gives back what other tests have left.
+    let more = || {
+        let before = page_faults();
+        chunks(20);
+        page_faults() - before
+    };
+    // It is 2,300 each time where the memory of these lists is given back. The allocator also gives
+    // back what tests leave that run beside this one, so the least of some is judged.
+    let more = (0..5).map(|_| more()).min().unwrap();
     assert!(more < 1_000, "{more} pages");
 }

@@ -30,15 +30,18 @@ pub fn poll_once<F: Future>(future: F) -> Option<F::Output> {
     }
 }
 
+/// How long nothing takes that ends, also on a machine that is busy.
+pub const LONG: Duration = Duration::from_secs(600);
+
 /// Runs something that a fault may make wait forever, in a thread of its own. Returns its result,
-/// or panics after half a minute.
+/// or panics after ten minutes.
 pub fn in_time<R: Send + 'static>(act: impl FnOnce() -> R + Send + 'static) -> R {
     let (over, is_over) = mpsc::channel::<()>();
     let thread = thread::spawn(move || {
         let _over = over;
         act()
     });
-    let waited = is_over.recv_timeout(Duration::from_secs(30));
+    let waited = is_over.recv_timeout(LONG);
     assert_ne!(waited, Err(RecvTimeoutError::Timeout), "it waits forever");
     thread
         .join()

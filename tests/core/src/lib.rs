@@ -19,14 +19,17 @@ pub fn side_by_side<A: Send, B>(one: impl FnOnce() -> A + Send, two: impl FnOnce
     })
 }
 
-/// Runs something that a fault may make wait forever, in a thread of its own. Returns its result, or panics after two minutes.
+/// After how long a wait counts as one without an end. Where the machine has much else to do, what takes a second takes a minute.
+const LIMIT: Duration = Duration::from_secs(1200);
+
+/// Runs something that a fault may make wait forever, in a thread of its own. Returns its result, or panics after the limit.
 pub fn in_time<R: Send + 'static>(act: impl FnOnce() -> R + Send + 'static) -> R {
     let (over, is_over) = mpsc::channel::<()>();
     let thread = thread::spawn(move || {
         let _over = over;
         act()
     });
-    let waited = is_over.recv_timeout(Duration::from_secs(120));
+    let waited = is_over.recv_timeout(LIMIT);
     assert_ne!(
         waited,
         Err(RecvTimeoutError::Timeout),

@@ -9,7 +9,7 @@ MOST_MEMORY = 8 << 30
 MOST_OUTPUT = 1 << 30
 # A program is ended after this time on a processor, and, since it may wait for what never happens, after a much longer time in any case.
 MOST_SECONDS = 60
-MOST_WAITING = 600
+MOST_WAITING = 1800
 IN, OUT, ERR = "stdin", "stdout", "stderr"
 
 

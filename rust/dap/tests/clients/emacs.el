@@ -22,7 +22,7 @@
 
 (defun wait-for-stop (before)
   "Waits until another stop was shown than these."
-  (let ((end (+ (float-time) 540)))
+  (let ((end (+ (float-time) 1700)))
     (while (and (= stops before) (< (float-time) end)) (accept-process-output nil 0.05))
     (when (= stops before) (princ "nothing stopped\n") (kill-emacs 1))))
 

@@ -1,7 +1,7 @@
 //! A program of tasks that is explored for a condition.
 
-use crate::Program;
 use crate::json::{best_of_ten, number, text};
+use crate::{Program, assert_in_some_session};
 use std::collections::BTreeSet;
 
 const FOR: &str = "YOVANELUM_EXPLORE_FOR";
@@ -9,24 +9,26 @@ const FOR: &str = "YOVANELUM_EXPLORE_FOR";
 /// The monitor lags in a few orders in which time passes, and fails as soon as it is told.
 #[test]
 fn a_monitor_that_lags_by_a_timer_is_found_by_a_guided_run() {
-    let program = Program::new("heart_and_monitor");
-    let found = [1000, 2000, 3000].map(|from| {
-        let asked = (FOR, "lagging monitor");
-        let (passes, said, json) = program.explored_with(&[asked], 60, &from.to_string());
-        assert!(!passes, "{said}");
-        assert!(
-            said.contains("yovanelum: met: lagging monitor, at call "),
-            "{said}"
-        );
-        assert!(said.contains("Lagged("), "{said}");
-        assert!(json.contains("\"met\": null, \"failure\": {"), "{json}");
-        (
-            said.contains("a guided order failed"),
-            number(&json, "runs"),
-        )
+    assert_in_some_session(|| {
+        let program = Program::new("heart_and_monitor");
+        let found = [1000, 2000, 3000].map(|from| {
+            let asked = (FOR, "lagging monitor");
+            let (passes, said, json) = program.explored_with(&[asked], 60, &from.to_string());
+            assert!(!passes, "{said}");
+            assert!(
+                said.contains("yovanelum: met: lagging monitor, at call "),
+                "{said}"
+            );
+            assert!(said.contains("Lagged("), "{said}");
+            assert!(json.contains("\"met\": null, \"failure\": {"), "{json}");
+            (
+                said.contains("a guided order failed"),
+                number(&json, "runs"),
+            )
+        });
+        // The second run of each session is guided.
+        assert!(found.contains(&(true, 2)), "{found:?}");
     });
-    // The second run of each session is guided.
-    assert!(found.contains(&(true, 2)), "{found:?}");
 }
 
 #[test]

@@ -2,7 +2,8 @@
 
 use crate::json::text;
 use crate::{
-    PROGRAMS, Program, assert_brought_back, assert_found, assert_right_in, assert_tells_time,
+    PROGRAMS, Program, assert_brought_back, assert_found, assert_in_some_session, assert_right_in,
+    assert_tells_time,
 };
 use std::fs;
 use std::path::Path;
@@ -22,14 +23,12 @@ fn a_client_that_waits_forever_is_found() {
 #[test]
 #[ignore = "rust/test slow runs it"]
 fn an_order_in_which_time_passes_is_found() {
-    assert_found(
-        "heart_and_monitor",
-        &[
-            "  time passed at step ",
-            " while `monitor` stood ready\n",
-            "Lagged(",
-        ],
-    );
+    let lines = [
+        "  time passed at step ",
+        " while `monitor` stood ready\n",
+        "Lagged(",
+    ];
+    assert_in_some_session(|| assert_found("heart_and_monitor", &lines));
 }
 
 #[test]
@@ -49,7 +48,7 @@ fn a_message_that_a_server_loses_on_two_workers_is_found() {
         "chat hangs: everybody waits forever",
     ];
     // Which worker polls what isn't chosen.
-    assert_brought_back("chat", &lines, 7);
+    assert_in_some_session(|| drop(assert_brought_back("chat", &lines, 7)));
 }
 
 /// Their runs wait for their timers.
@@ -66,9 +65,9 @@ fn bugs_of_time_are_found() {
         "two_leaders",
         "second_answer_is_late",
     ] {
-        // Their timers are those of the machine's clock, which goes on while tasks are held: at a
-        // load of 15, one came back in five of ten replays.
-        assert_tells_time(&assert_brought_back(name, &[], 4));
+        // Their timers are those of the machine's clock. What comes back less often than in half of
+        // its tries is told as chance, without the order's name.
+        assert_in_some_session(|| assert_tells_time(&assert_brought_back(name, &[], 5)));
     }
     assert_right_in(2, "waits_for_a_limit", &[]);
 }

@@ -1,14 +1,18 @@
 //! Timers of tokio: a choice lets a short one end, and a run that is slow lets a long one end.
 
 use crate::json::number;
-use crate::{Program, assert_brought_back, assert_right_in, assert_tells_time};
+use crate::{
+    Program, assert_brought_back, assert_in_some_session, assert_right_in, assert_tells_time,
+};
 
 /// The timer is one of a task that could go on by a channel, so its runtime is never seen to wait
 /// for it alone.
 #[test]
 fn a_limit_that_ends_where_a_service_is_late_is_found() {
-    let said = assert_brought_back("ready_within_a_limit", &["the service isn't ready"], 10);
-    assert_tells_time(&said);
+    assert_in_some_session(|| {
+        let lines = ["the service isn't ready"];
+        assert_tells_time(&assert_brought_back("ready_within_a_limit", &lines, 10));
+    });
 }
 
 #[test]
@@ -19,10 +23,12 @@ fn a_select_that_a_timer_wins_is_found() {
         "  left: 1\n right: 2\n",
         "  left: 0\n right: 2\n",
     ];
-    let (passes, said, _) = Program::new("leaves_when_idle").explored(500, "0");
-    assert!(!passes, "{said}");
-    let told = lines.iter().filter(|line| said.contains(**line)).count();
-    assert!(told > 0, "{said}");
+    assert_in_some_session(|| {
+        let (passes, said, _) = Program::new("leaves_when_idle").explored(500, "0");
+        assert!(!passes, "{said}");
+        let told = lines.iter().filter(|line| said.contains(**line)).count();
+        assert!(told > 0, "{said}");
+    });
 }
 
 #[test]

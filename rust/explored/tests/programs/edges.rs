@@ -50,12 +50,12 @@ pub fn fails_always() {
 pub const OUTLIVED: &str = "outlived";
 
 /// A right program that leaves a process behind, which has its standard error. It ends when the
-/// folder is removed, or after half a minute.
+/// folder is removed, or after ten minutes.
 #[expect(clippy::zombie_processes, reason = "it outlives who has started it")]
 pub fn leaves_a_process() {
     let folder = env::var(FOLDER).unwrap();
     let waits = format!(
-        "for i in $(seq 150); do [ -e '{folder}' ] || exit; sleep 0.2; done; touch '{folder}/{OUTLIVED}'"
+        "for i in $(seq 3000); do [ -e '{folder}' ] || exit; sleep 0.2; done; touch '{folder}/{OUTLIVED}'"
     );
     let mut shell = Command::new("sh");
     shell.args(["-c", &waits]).stdin(Stdio::null());

@@ -36,9 +36,9 @@ pub fn paused_clock() {
     runtime.block_on(named("test", served_within(Duration::from_secs(5))));
 }
 
-/// A second doesn't pass in a run of some milliseconds.
+/// A minute doesn't pass in a run of some milliseconds, also on a machine that is busy.
 pub fn long_timeout() {
-    on_one_thread(served_within(Duration::from_secs(1)));
+    on_one_thread(served_within(Duration::from_secs(60)));
 }
 
 /// Bytes by a socket beside the bus.

@@ -11,13 +11,17 @@ use crate::harness::automatic::is_under_command;
 use crate::harness::replay_line::quoted;
 use crate::run::account::visible;
 use crate::run::sidecar::push_string;
-use crate::schedule::explore::{Order, OrderKind, POINTS, has_points};
+use crate::schedule::explore::{Order, OrderKind, POINTS, Schedule, Step, has_points};
 use std::fmt::Write;
 use std::path::{Path, PathBuf};
 use std::time::Duration;
 
 /// How many milliseconds are lost at least where a run may have failed by time.
 pub(super) const LEAST_LOST: u32 = 50;
+
+/// How many are lost at least where that is told of a run in which no choice let time pass. So many
+/// are seldom lost where the machine isn't busy, and short timers may have ended in them.
+const LEAST_TOLD: u32 = 10;
 
 /// A failing order, and what brings it back.
 pub(super) struct FailingOrder {
@@ -130,13 +134,7 @@ impl FailingOrder {
             text.push_str(&race::in_words(&failing.schedule));
         }
         self.push_tries(&mut text);
-        if failing.schedule.lost >= LEAST_LOST {
-            let lost = failing.schedule.lost;
-            let _ = writeln!(
-                text,
-                "  timers of the machine's clock went on for {lost} ms while tasks were held"
-            );
-        }
+        text.push_str(&lost_in_words(&failing.schedule));
         if failing.schedule.by_clock {
             let _ = writeln!(text, "  {BY_CLOCK}");
         }
@@ -269,9 +267,45 @@ impl FailingOrder {
     }
 }
 
+/// Says for how long timers of the machine's clock went on in a failing run, if it was for so long
+/// that one may have ended. Where a choice let one end, the report has that already.
+fn lost_in_words(schedule: &Schedule) -> String {
+    let lost = schedule.lost;
+    let has_time = schedule.steps.iter().any(Step::is_time);
+    let least = if has_time { LEAST_LOST } else { LEAST_TOLD };
+    if lost < least {
+        return String::new();
+    }
+    format!("  timers of the machine's clock went on for {lost} ms while tasks were held\n")
+}
+
 #[cfg(test)]
 mod tests {
     use super::*;
+    use crate::schedule::explore::{Turn, What};
+
+    /// What is said of a run that has lost so many milliseconds, with a poll and with these steps.
+    fn said(lost: u32, others: &[What]) -> String {
+        let step = |what: &What| Step {
+            what: what.clone(),
+            ..Step::poll_of("a", Turn::Free)
+        };
+        let mut schedule = Schedule::new(String::new());
+        schedule.lost = lost;
+        schedule.steps = [What::Poll].iter().chain(others).map(step).collect();
+        lost_in_words(&schedule)
+    }
+
+    #[test]
+    fn that_the_clock_let_a_short_timer_end_is_told_where_no_choice_did() {
+        let line = "  timers of the machine's clock went on for 30 ms while tasks were held\n";
+        assert_eq!(said(30, &[]), line);
+        assert_eq!(said(9, &[]), "");
+        let ready = "`a`".to_string();
+        let time = [What::Time { ready }];
+        assert_eq!(said(30, &time), "");
+        assert_eq!(said(50, &time), line.replace("30", "50"));
+    }
 
     #[test]
     fn numbers_have_their_endings() {

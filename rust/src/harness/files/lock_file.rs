@@ -121,9 +121,12 @@ mod tests {
         make_old(&lock);
         assert!(!is_left(&lock));
         drop(locked);
-        // No process has this number.
-        fs::write(&lock, u64::MAX.to_string()).unwrap();
-        assert!(!is_left(&lock));
+        // No process has this number. This thread may not run until the file is old.
+        let is_young = |_| {
+            fs::write(&lock, u64::MAX.to_string()).unwrap();
+            !is_left(&lock)
+        };
+        assert!((0..20).any(is_young));
         make_old(&lock);
         assert!(is_left(&lock));
         fs::remove_file(&lock).unwrap();

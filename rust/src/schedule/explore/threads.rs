@@ -349,7 +349,7 @@ mod tests {
     /// Waits until the thread sleeps, and returns where.
     fn asleep(threads: &mut Threads, thread: ThreadId) -> Sleeper {
         let began = Instant::now();
-        while began.elapsed() < Duration::from_secs(30) {
+        while began.elapsed() < Duration::from_secs(600) {
             let asked = |other| {
                 if other == thread {
                     Asked::Sleeps
@@ -399,9 +399,10 @@ mod tests {
                         while gone.recv_timeout(wait) == Err(mpsc::RecvTimeoutError::Timeout) {}
                     },
                 );
-            let sleeper = asleep(&mut threads, number);
-            assert!(sleeper.is_timed());
-            assert_eq!(sleeper.is_soon(), is_soon, "{seconds}");
+            assert!(asleep(&mut threads, number).is_timed());
+            // A short wait may be over before its time is read, which is then another number.
+            let mut looks = (0..20).map(|_| asleep(&mut threads, number).is_soon());
+            assert_eq!(looks.any(|is_soon| is_soon), is_soon, "{seconds}");
             drop(go);
             handle.join().unwrap();
         }

@@ -19,7 +19,7 @@ async fn two_deposits_are_added() {
 
 #[test]
 fn a_price_is_raised() {
-    let recorder = Recorder::for_test("a_price_is_raised").watchdog(Duration::from_millis(300));
+    let recorder = Recorder::for_test("a_price_is_raised").watchdog(Duration::from_secs(3));
     let (price, reader) = watch::channel(10);
     name!(recorder, &price, "price");
     actor::raise(&price, &reader);
@@ -28,7 +28,7 @@ fn a_price_is_raised() {
 
 #[test]
 fn the_ball_comes_back() {
-    let recorder = Recorder::for_test("the_ball_comes_back").watchdog(Duration::from_millis(300));
+    let recorder = Recorder::for_test("the_ball_comes_back").watchdog(Duration::from_secs(3));
     let (to_left, left) = broadcast::channel(4);
     let (to_right, right) = broadcast::channel(4);
     name!(recorder, &to_left, "to left");

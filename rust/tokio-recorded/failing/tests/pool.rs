@@ -16,7 +16,7 @@ async fn all_workers_stop() {
     let stop = pool.stop.clone();
     stop.send(()).unwrap();
     loaded.notify_one();
-    let ended = timeout(Duration::from_millis(300), pool.join())
+    let ended = timeout(Duration::from_secs(3), pool.join())
         .await
         .expect("all workers stop");
     assert_eq!(ended.len(), 4);

@@ -3,6 +3,7 @@
 //! orders were overwritten.
 
 use std::future::Future;
+use std::path::{Path, PathBuf};
 use std::pin::Pin;
 use std::sync::atomic::{AtomicBool, Ordering};
 use std::sync::{Arc, Mutex};
@@ -137,6 +138,23 @@ pub async fn fed_by_thread(orders: Sender<u32>, audit: JoinHandle<()>, signals: 
     let thread = feed_on_thread(orders, signals.clone());
     audited(audit, signals).await;
     thread.join().unwrap();
+}
+
+/// The folder in which the system says of this thread what it does.
+pub fn this_thread() -> PathBuf {
+    std::fs::canonicalize("/proc/thread-self").unwrap()
+}
+
+/// Waits until that thread sleeps.
+pub async fn until_it_sleeps(thread: &Path) {
+    loop {
+        let said = std::fs::read_to_string(thread.join("stat")).unwrap();
+        // Behind its name, which may have any letters, is its state.
+        if said.rsplit_once(") ").unwrap().1.starts_with('S') {
+            return;
+        }
+        crate::wait(1).await;
+    }
 }
 
 /// A future by hand that is ready once it was opened.

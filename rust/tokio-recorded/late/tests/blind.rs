@@ -3,7 +3,9 @@
 //! `@NAME` marks a line that a reason names.
 
 use late::Db;
-use late::events::{Gate, Signals, audited, fed, fed_by_thread, next};
+use late::events::{
+    Gate, Signals, audited, fed, fed_by_thread, next, this_thread, until_it_sleeps,
+};
 use std::sync::Arc;
 use std::time::Duration;
 use tokio::io::{AsyncReadExt, AsyncWriteExt};
@@ -540,7 +542,9 @@ async fn thread_blocks_on() {
     let [signals, own, changed] = Signals::shared();
     let db = Db::default();
     let rows = db.0.clone().lock_owned().await;
+    let (tells, thread) = oneshot::channel();
     let audit = tokio::task::spawn_blocking(move || {
+        tells.send(this_thread()).unwrap();
         tokio::runtime::Handle::current().block_on(async move {
             while let Some(id) = next(&mut rx, &own).await {
                 own.is_busy_after_poll();
@@ -556,8 +560,8 @@ async fn thread_blocks_on() {
     tokio::spawn(named("feed", async move {
         orders.send(0).unwrap();
         sends.busy().await;
-        // The thread's poll ends meanwhile: no task of the runtime is run after it.
-        late::wait(50).await;
+        // Then the thread's poll has ended: no task of the runtime is run after it.
+        until_it_sleeps(&thread.await.unwrap()).await;
         for id in 1..6 {
             orders.send(id).unwrap();
             late::wait(1).await;

@@ -2,6 +2,7 @@
 //! why it is late, as was written down before the report was read. A comment `@NAME` marks a line
 //! that a reason names.
 
+use late::events::{self, Signals};
 use late::{Db, Sent, wait};
 use std::sync::Arc;
 use std::time::Duration;
@@ -198,45 +199,47 @@ async fn full_mpsc() {
 async fn sleep() {
     let _recorder = Recorder::for_test("sleep");
     let (orders, mut rx) = broadcast::channel(2);
+    let [signals, own, _] = Signals::shared();
     let audit = tokio::spawn(async move {
-        let mut lagged = false;
-        while next(&mut rx, &mut lagged).await.is_some() {
-            tokio::time::sleep(Duration::from_millis(100)).await; // @sleep_sleep
+        while events::next(&mut rx, &own).await.is_some() {
+            own.is_busy_after_poll();
+            tokio::time::sleep(Duration::from_secs(1)).await; // @sleep_sleep
         }
-        lagged
     });
-    fed(orders, Sent::default(), audit).await;
+    events::fed(orders, audit, &signals).await;
 }
 
 #[tokio::test]
 async fn interval() {
     let _recorder = Recorder::for_test("interval");
     let (orders, mut rx) = broadcast::channel(2);
+    let [signals, own, _] = Signals::shared();
     let audit = tokio::spawn(async move {
-        let mut lagged = false;
-        let mut pace = tokio::time::interval(Duration::from_millis(100));
+        let mut pace = tokio::time::interval(Duration::from_secs(1));
         pace.tick().await;
-        while next(&mut rx, &mut lagged).await.is_some() {
-            pace.tick().await; // @interval_tick
+        while events::next(&mut rx, &own).await.is_some() {
+            own.is_busy_after_poll();
+            while !own.has_overwritten() {
+                pace.tick().await; // @interval_tick
+            }
         }
-        lagged
     });
-    fed(orders, Sent::default(), audit).await;
+    events::fed(orders, audit, &signals).await;
 }
 
 #[tokio::test]
 async fn timeout() {
     let _recorder = Recorder::for_test("timeout");
     let (orders, mut rx) = broadcast::channel(2);
+    let [signals, own, _] = Signals::shared();
     let audit = tokio::spawn(async move {
-        let mut lagged = false;
-        while next(&mut rx, &mut lagged).await.is_some() {
+        while events::next(&mut rx, &own).await.is_some() {
+            own.is_busy_after_poll();
             let never = std::future::pending::<()>();
-            let _ = tokio::time::timeout(Duration::from_millis(100), never).await; // @timeout_timeout
+            let _ = tokio::time::timeout(Duration::from_secs(1), never).await; // @timeout_timeout
         }
-        lagged
     });
-    fed(orders, Sent::default(), audit).await;
+    events::fed(orders, audit, &signals).await;
 }
 
 #[tokio::test]
@@ -329,12 +332,16 @@ async fn worked() {
     let (orders, mut rx) = broadcast::channel(2);
     recorder.show(&orders, |id| format!("order {id}"));
     let [sent, overwritten] = Sent::shared();
+    let [computing, computes] = Sent::shared();
     let audit = tokio::spawn(async move {
         let mut lagged = false;
         loop {
             let received = rx.recv().await; // @worked_received
             match received {
-                Ok(_) => overwritten.compute_until(5),
+                Ok(_) => {
+                    computes.add();
+                    overwritten.compute_until(5);
+                }
                 Err(RecvError::Lagged(_)) => lagged = true,
                 Err(RecvError::Closed) => return lagged,
             }
@@ -343,7 +350,15 @@ async fn worked() {
             }
         }
     });
-    fed(orders, sent, audit).await;
+    tokio::spawn(async move {
+        for id in 0..12 {
+            let _ = orders.send(id);
+            sent.add();
+            wait(1).await;
+            computing.reaches(1).await;
+        }
+    });
+    audited(audit).await;
 }
 
 #[tokio::test]
@@ -377,11 +392,10 @@ async fn burst_beside() {
         lagged
     });
     tokio::spawn(named("feed", async move {
-        // The stack of the first wait is captured. Where another test is told its report meanwhile,
-        // that takes longer than the timer, which then is over before anything waits for it.
-        for _ in 0..2 {
-            wait(3).await;
-        }
+        // The stack of the first wait is captured, which may take longer than the timer: that then
+        // is over before anything waits for it. The second waits for longer than any thread stops.
+        wait(3).await;
+        wait(1_000).await;
         for id in 0..64 {
             orders.send(id).unwrap(); // @burst_beside_sent
         }
@@ -405,19 +419,20 @@ async fn same_task() {
 async fn select_branch() {
     let _recorder = Recorder::for_test("select_branch");
     let (orders, mut rx) = broadcast::channel(2);
+    let [signals, own, _] = Signals::shared();
     let audit = tokio::spawn(async move {
-        let mut lagged = false;
         let mut flush = tokio::time::interval(Duration::from_millis(5));
         loop {
             tokio::select! {
-                order = next(&mut rx, &mut lagged) => if order.is_none() { return lagged },
+                order = events::next(&mut rx, &own) => if order.is_none() { return },
                 _ = flush.tick() => {
-                    tokio::time::sleep(Duration::from_millis(100)).await; // @select_flushes
+                    own.is_busy_after_poll();
+                    tokio::time::sleep(Duration::from_secs(1)).await; // @select_flushes
                 }
             }
         }
     });
-    fed(orders, Sent::default(), audit).await;
+    events::fed(orders, audit, &signals).await;
 }
 
 #[tokio::test]
@@ -425,18 +440,23 @@ async fn stream_then() {
     use futures::StreamExt;
     let _recorder = Recorder::for_test("stream_then");
     let (orders, rx) = broadcast::channel(2);
+    let [signals, own, stores] = Signals::shared();
     let audit = tokio::spawn(async move {
-        let received =
-            futures::stream::unfold(rx, |mut rx| async move { Some((rx.recv().await, rx)) });
-        let stored = received.then(|order| async move {
-            wait(100).await;
-            order
+        let received = futures::stream::unfold((rx, own), |(mut rx, own)| async move {
+            let id = events::next(&mut rx, &own).await;
+            id.map(|id| (id, (rx, own)))
+        });
+        let stored = received.then(|id| {
+            stores.is_busy_after_poll();
+            async move {
+                wait(1_000).await;
+                id
+            }
         });
         let mut stored = Box::pin(stored);
-        while let Some(Ok(_)) = stored.next().await {}
-        true
+        while stored.next().await.is_some() {}
     });
-    fed(orders, Sent::default(), audit).await;
+    events::fed(orders, audit, &signals).await;
 }
 
 #[tokio::test]
@@ -444,14 +464,19 @@ async fn stream_concurrent() {
     use futures::StreamExt;
     let _recorder = Recorder::for_test("stream_concurrent");
     let (orders, rx) = broadcast::channel(2);
+    let [signals, own, stores] = Signals::shared();
     let audit = tokio::spawn(async move {
-        let received = futures::stream::unfold(rx, |mut rx| async move {
-            rx.recv().await.ok().map(|id| (id, rx))
+        let received = futures::stream::unfold((rx, own), |(mut rx, own)| async move {
+            let id = events::next(&mut rx, &own).await;
+            id.map(|id| (id, (rx, own)))
         });
-        received.for_each_concurrent(1, |_| wait(100)).await; // @concurrent_waits
-        true
+        let stored = received.for_each_concurrent(1, |_| {
+            stores.is_busy_after_poll();
+            wait(1_000)
+        });
+        stored.await; // @concurrent_waits
     });
-    fed(orders, Sent::default(), audit).await;
+    events::fed(orders, audit, &signals).await;
 }
 
 #[tokio::test]
@@ -484,14 +509,14 @@ async fn held_across_await() {
 async fn join_all() {
     let _recorder = Recorder::for_test("join_all");
     let (orders, mut rx) = broadcast::channel(2);
+    let [signals, own, _] = Signals::shared();
     let audit = tokio::spawn(async move {
-        let mut lagged = false;
-        while next(&mut rx, &mut lagged).await.is_some() {
-            futures::future::join_all((1..40).map(|n| wait(60 + n))).await; // @join_all_waits
+        while events::next(&mut rx, &own).await.is_some() {
+            own.is_busy_after_poll();
+            futures::future::join_all((1..40).map(|n| wait(1_000 + n))).await; // @join_all_waits
         }
-        lagged
     });
-    fed(orders, Sent::default(), audit).await;
+    events::fed(orders, audit, &signals).await;
 }
 
 #[tokio::test(flavor = "multi_thread", worker_threads = 2)]
@@ -541,15 +566,15 @@ async fn local_set() {
     let set = tokio::task::LocalSet::new();
     let in_set = async {
         let (orders, mut rx) = broadcast::channel(2);
+        let [signals, own, _] = Signals::shared();
         let audit = tokio::task::spawn_local(async move {
-            let mut lagged = false;
-            while next(&mut rx, &mut lagged).await.is_some() {
-                tokio::time::sleep(Duration::from_millis(100)).await; // @local_sleeps
+            while events::next(&mut rx, &own).await.is_some() {
+                own.is_busy_after_poll();
+                tokio::time::sleep(Duration::from_secs(1)).await; // @local_sleeps
             }
-            lagged
         });
-        tokio::task::spawn_local(feed(orders, Sent::default()));
-        audited(audit).await;
+        tokio::task::spawn_local(events::feed(orders, signals.clone()));
+        events::audited(audit, &signals).await;
     };
     set.run_until(in_set).await;
 }
@@ -639,18 +664,23 @@ async fn deadlock() {
     let (orders, mut rx) = broadcast::channel::<u32>(2);
     let (rows, log) = (Arc::new(Mutex::new(1)), Arc::new(Mutex::new(2)));
     let (rows_too, log_too) = (rows.clone(), log.clone());
+    let [locking, writes] = Sent::shared();
+    let logs = locking.clone();
     // Long enough that no timer is due before it is polled, however busy the machine is.
     tokio::spawn(named("writer", async move {
         let _rows = rows.lock().await;
         wait(50).await;
+        writes.add();
         let _log = log.lock().await; // @deadlock_log
         orders.send(1).unwrap();
     }));
     tokio::spawn(named("logger", async move {
         let _log = log_too.lock().await;
         wait(50).await;
+        logs.add();
         let _rows = rows_too.lock().await; // @deadlock_rows
     }));
+    locking.reaches(2).await;
     let order = tokio::time::timeout(Duration::from_millis(300), rx.recv()).await;
     order.expect("an order").unwrap();
 }

@@ -90,7 +90,7 @@ async fn a_worker_of_a_pool_hangs() {
     drop(reader);
     shutdown.send(true).unwrap();
     for worker in workers {
-        let ended = tokio::time::timeout(Duration::from_millis(300), worker);
+        let ended = tokio::time::timeout(Duration::from_secs(3), worker);
         ended.await.expect("a worker hangs").unwrap(); // @elapsed
     }
 }

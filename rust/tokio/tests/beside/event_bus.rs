@@ -62,11 +62,13 @@ async fn run() {
         let task = subscriber(first.resubscribe(), set.clone());
         subscribers.push(tokio::spawn(named(&format!("subscriber {number}"), task)));
     }
-    // One that is cancelled while it waits or works.
-    let cut_off = tokio::spawn(named(
-        "cut off",
-        subscriber(first.resubscribe(), set.clone()),
-    ));
+    // One that is cancelled while it waits or works, and not before it has begun.
+    let task = subscriber(first.resubscribe(), set.clone());
+    let (begin, begun) = tokio::sync::oneshot::channel();
+    let cut_off = tokio::spawn(named("cut off", async move {
+        begin.send(()).unwrap();
+        task.await
+    }));
     drop((first, set));
     let publisher = tokio::spawn(named("publisher", async move {
         for event in 0..EVENTS {
@@ -77,6 +79,7 @@ async fn run() {
             }
         }
     }));
+    begun.await.unwrap();
     sleep(Duration::from_millis(1)).await;
     cut_off.abort();
     publisher.await.unwrap();

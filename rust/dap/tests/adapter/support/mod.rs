@@ -13,7 +13,7 @@ use yovanelum::{Recorder, broadcast};
 use yovanelum_dap::{Options, serve};
 
 /// How long an answer may take. It is far more than any takes.
-const PATIENCE: Duration = Duration::from_secs(120);
+const PATIENCE: Duration = Duration::from_secs(1800);
 
 /// The threads of the bus: the ticker makes the first call.
 pub const TICKER: u64 = 1;

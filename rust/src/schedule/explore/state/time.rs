@@ -85,13 +85,43 @@ impl ExplorerState {
     }
 
     /// Returns for how many milliseconds timers of the machine's clock have gone on while tasks
-    /// were held or ran, if there may be any.
+    /// were held or ran, if there may be any. On a busy machine they may have ended before a thread
+    /// was seen to wait for them.
     pub(in crate::schedule::explore) fn lost(&self) -> u32 {
-        let may_be_unseen = self.schedule.was_busy && !is_over_facade();
+        let may_be_unseen = (self.schedule.was_busy || self.is_let_idle) && !is_over_facade();
         if !self.has_sleepers && !may_be_unseen {
             return 0;
         }
         let lost = self.began.elapsed().saturating_sub(self.clock.now());
         u32::try_from(lost.as_millis()).unwrap_or(u32::MAX)
+    }
+}
+
+#[cfg(test)]
+mod tests {
+    use crate::schedule::explore::chooser::Chooser;
+    use crate::schedule::explore::explorer::Offered;
+    use crate::schedule::explore::order::Order;
+    use crate::schedule::explore::state::ExplorerState;
+    use std::time::Duration;
+
+    /// What a run by this order has lost in which no thread was seen to wait for a timer.
+    fn lost_unseen(order: &str) -> u32 {
+        let order = Order::read(order).unwrap();
+        let chooser = Chooser::new(&order).unwrap();
+        let offered = Offered {
+            time: true,
+            points: false,
+        };
+        let mut state = ExplorerState::new(&order, chooser, offered);
+        state.began -= Duration::from_millis(70);
+        state.lost()
+    }
+
+    #[test]
+    fn timers_that_ended_before_anybody_was_seen_to_wait_for_them_went_on() {
+        // The order says that its test waits for timers, as a run before it has shown.
+        assert!(lost_unseen("ts6.1") >= 70);
+        assert_eq!(lost_unseen("s6.1"), 0);
     }
 }

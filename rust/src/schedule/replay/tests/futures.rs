@@ -1,8 +1,8 @@
 //! Futures that wait before a gate, and polls that are held back there.
 
 use super::{
-    AUDIT, CLERK, JOURNAL, NAMES, PATIENT, call, gate, gate_of, gate_without_helper, make,
-    make_first, ordered, poll, told,
+    AUDIT, CLERK, JOURNAL, NAMES, PATIENT, call, gate, gate_of, gate_that_holds,
+    gate_without_helper, make, make_first, ordered, poll, told,
 };
 use crate::channels::turns::Turns;
 use crate::run::operation::Operation;
@@ -10,7 +10,6 @@ use std::sync::atomic::Ordering;
 use std::sync::mpsc::Receiver;
 use std::task::Context;
 use std::thread;
-use std::time::Duration;
 
 #[test]
 fn a_future_is_pending_until_its_turn_and_woken_by_the_helper() {
@@ -58,7 +57,7 @@ fn the_end_wakes_futures_that_the_journal_does_not_have() {
 
 #[test]
 fn a_poll_is_held_back_until_the_turn_of_its_actor() {
-    let gate = gate();
+    let gate = gate_that_holds();
     let (_, waker, woken) = told();
     let context = Context::from_waker(&waker);
     // The next call of the audit may wait, so its future waits by itself. The clerk's turn has
@@ -70,9 +69,16 @@ fn a_poll_is_held_back_until_the_turn_of_its_actor() {
     make(&gate, call(AUDIT, 0, Operation::Recv, 1));
     assert_eq!(woken.recv().unwrap(), "yovanelum-replay");
     assert!(!gate.holds("clerk", None, &context) && gate.holds("audit", None, &context));
-    make(&gate, call(CLERK, 1, Operation::Modify, 0));
-    // The turn is that of one without a name, who doesn't come for a while. Then the others are
-    // polled.
+}
+
+#[test]
+fn a_poll_is_held_back_for_a_while_at_most() {
+    let gate = gate();
+    let (_, waker, woken) = told();
+    let context = Context::from_waker(&waker);
+    // The turn is that of one without a name, who doesn't come. Then the others are polled.
+    make_first(&gate, 3);
+    assert!(gate.holds("audit", None, &context));
     assert_eq!(woken.recv().unwrap(), "yovanelum-replay");
     assert!(!gate.holds("audit", None, &context));
 }
@@ -102,9 +108,9 @@ fn a_poll_by_which_that_of_the_turn_is_made_is_not_held_back() {
     assert!(gate.holds("clerk", None, &context));
 }
 
-/// Whether a task is woken. A machine under load has half a minute to do so.
+/// Whether a task is woken. A machine under load may take long to do so.
 fn is_woken(woken: &Receiver<String>) -> bool {
-    woken.recv_timeout(Duration::from_secs(30)).is_ok()
+    woken.recv_timeout(PATIENT).is_ok()
 }
 
 #[test]

@@ -1,11 +1,9 @@
 //! Polls that are held back until all threads sleep. Each test has a process of its own, where no
 //! other test runs beside it.
 
-use super::{JOURNAL, NAMES, PATIENT, make_first, plan_of, told};
+use super::{PATIENT, gate_that_holds, make_first, told};
 use crate::schedule::explore::{Asked, Threads, this_thread};
 use crate::schedule::replay::clock::RunningClock;
-use crate::schedule::replay::gate::Gate;
-use crate::schedule::replay::helper;
 use crate::schedule::replay::rest::RestWatch;
 use std::path::Path;
 use std::process::{Command, Stdio};
@@ -31,7 +29,7 @@ fn is_alone(test: &str) -> bool {
         .spawn()
         .unwrap();
     let began = Instant::now();
-    while alone.try_wait().unwrap().is_none() && began.elapsed() < Duration::from_secs(120) {
+    while alone.try_wait().unwrap().is_none() && began.elapsed() < PATIENT {
         thread::sleep(Duration::from_millis(5));
     }
     let _ = alone.kill();
@@ -63,15 +61,7 @@ fn a_poll_is_held_back_no_longer_than_anybody_runs() {
     if !is_alone("a_poll_is_held_back_no_longer_than_anybody_runs") {
         return;
     }
-    let mut gate = Gate::new(
-        Path::new("a/test.journal"),
-        1,
-        plan_of(JOURNAL, NAMES),
-        PATIENT,
-    );
-    gate.hold = PATIENT;
-    let gate = Arc::new(gate);
-    helper::start(&gate).unwrap();
+    let gate = gate_that_holds();
     let (_, waker, woken) = told();
     let context = Context::from_waker(&waker);
     // The turn is that of one without a name, who never comes.
