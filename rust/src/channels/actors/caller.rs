@@ -20,12 +20,15 @@ pub(super) struct CachedActor {
     actor: Actor,
     // One more than the number of the task, or 0 without one.
     task: u64,
+    // The number of the caller itself, which is `SOME_TASK` once tasks are told.
+    caller: CallerNumber,
 }
 
 pub(super) const NOT_CACHED: CachedActor = CachedActor {
     recorder: 0,
     actor: Actor::FIRST,
     task: 0,
+    caller: CallerNumber::NONE_YET,
 };
 
 /// The number of a caller in this process, which no other has: that of a named future, or of a
@@ -42,6 +45,9 @@ impl Numbered for CallerNumber {
 impl CallerNumber {
     /// The number of no caller.
     pub(crate) const NOBODY: CallerNumber = CallerNumber(u64::MAX);
+
+    /// Of a caller that may be one of several tasks on a thread. It is noted as that of none.
+    const SOME_TASK: CallerNumber = CallerNumber(u64::MAX - 1);
 
     // That of a thread before it is asked for the first time.
     pub(super) const NONE_YET: CallerNumber = CallerNumber(0);
@@ -120,12 +126,16 @@ pub(crate) fn current_task() -> Option<u64> {
 }
 
 /// Returns the current actor for the recorder with this number. Unless it is cached, `find` looks
-/// it up, given the current task.
+/// it up, given the current task. Also returns the number of the caller, by which
+/// [`LastCaller`](super::LastCaller) notes it.
 #[inline(always)]
-pub(crate) fn current(recorder: u64, find: impl FnOnce(Option<u64>) -> Actor) -> Actor {
+pub(crate) fn current(
+    recorder: u64,
+    find: impl FnOnce(Option<u64>) -> Actor,
+) -> (Actor, CallerNumber) {
     if let Ok(cached) = &CACHED.try_with(Cell::get) {
         if cached.recorder == recorder && !ARE_TASKS_TOLD.load(Ordering::Acquire) {
-            return cached.actor;
+            return (cached.actor, cached.caller);
         }
     }
     current_by_task(recorder, find)
@@ -160,19 +170,28 @@ pub(crate) fn forget_last_recorder() {
 
 /// As [`current`], where nothing is cached, or a thread may run several tasks.
 #[inline(never)]
-fn current_by_task(recorder: u64, find: impl FnOnce(Option<u64>) -> Actor) -> Actor {
+fn current_by_task(
+    recorder: u64,
+    find: impl FnOnce(Option<u64>) -> Actor,
+) -> (Actor, CallerNumber) {
     let (cached, current) = (CACHED.get(), current_task());
+    let caller = if are_tasks_told() {
+        CallerNumber::SOME_TASK
+    } else {
+        own_number()
+    };
     let task = current.map_or(0, |task| task.wrapping_add(1));
     if cached.recorder == recorder && cached.task == task {
-        return cached.actor;
+        return (cached.actor, caller);
     }
     let actor = find(current);
     CACHED.set(CachedActor {
         recorder,
         actor,
         task,
+        caller,
     });
-    actor
+    (actor, caller)
 }
 
 /// Returns the number of the current caller.

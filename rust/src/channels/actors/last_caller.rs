@@ -38,6 +38,16 @@ impl LastCaller {
         }
     }
 
+    /// As [`note`](LastCaller::note), of the current caller by its number, which
+    /// [`current`](super::current) has told for this call.
+    #[inline(always)]
+    pub(crate) fn note_of(&mut self, caller: CallerNumber, called_at: CallSite) {
+        self.called_at = called_at;
+        if caller.0 != self.number.0 {
+            self.note_other();
+        }
+    }
+
     #[cold]
     #[inline(never)]
     fn note_other(&mut self) {

@@ -216,14 +216,16 @@ impl<T> Receiver<T> {
         });
     }
 
-    /// Returns a clone of the value that was sent with this number, once the channel is unlocked.
+    /// Returns a clone of the value that was sent with this number, and is received now, once the
+    /// channel is unlocked.
     #[cfg_attr(debug_assertions, inline(never))]
     #[cfg_attr(not(debug_assertions), inline(always))]
-    fn clone_received(&self, mut channel: LockedChannel<'_>, number: u64, has_wait: bool) -> T
+    fn clone_received(&self, mut channel: LockedChannel<'_>, number: u64) -> T
     where
         T: Clone,
     {
-        let values = self.handle.channel.values.borrow_mut(&mut channel.state);
+        let (state, has_wait) = channel.note_receive(self.handle.slot);
+        let values = self.handle.channel.values.borrow_mut(state);
         // Each is unlocked and cloned as what it is. An enum would be stored in memory for it.
         match values.receive(number) {
             Value::Own(value) => {
@@ -239,11 +241,12 @@ impl<T> Receiver<T> {
 
     /// As [`clone_received`](Receiver::clone_received), of a large value.
     #[inline(never)]
-    fn clone_large(&self, mut channel: LockedChannel<'_>, number: u64, has_wait: bool) -> T
+    fn clone_large(&self, mut channel: LockedChannel<'_>, number: u64) -> T
     where
         T: Clone,
     {
-        let values = self.handle.channel.values.borrow_mut(&mut channel.state);
+        let (state, has_wait) = channel.note_receive(self.handle.slot);
+        let values = self.handle.channel.values.borrow_mut(state);
         let value = values.receive_large(number);
         channel.unlock_after(has_wait, self.handle.slot);
         value.with(T::clone)
@@ -428,11 +431,10 @@ impl<T: Clone> Receiver<T> {
             }
             return Err(reply.not_received());
         };
-        let has_wait = channel.note_receive(self.handle.slot);
         Ok(if Values::<T>::ARE_LARGE {
-            self.clone_large(channel, number, has_wait)
+            self.clone_large(channel, number)
         } else {
-            self.clone_received(channel, number, has_wait)
+            self.clone_received(channel, number)
         })
     }
 

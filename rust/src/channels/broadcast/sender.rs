@@ -115,13 +115,15 @@ impl<T> Sender<T> {
         // A function that passes the value on would have it on its stack.
         #[cfg(debug_assertions)]
         {
-            let channel = &self.handle.channel;
+            let (channel, number) = (&*self.handle.channel, self.handle.number);
             let text = if channel.has_text_of() {
                 channel.text(&value)
             } else {
                 None
             };
-            self.send_to(self.handle.lock(Operation::Send, called_at), value, text)
+            let recorded = &channel.recorded;
+            let locked = recorded.lock_in_turn(number, Operation::Send, called_at);
+            self.send_to(locked, value, text)
         }
     }
 

@@ -83,7 +83,9 @@ impl<T> Values<T> {
     #[cfg_attr(debug_assertions, inline(never))]
     #[cfg_attr(not(debug_assertions), inline(always))]
     pub(super) fn push(&mut self, number: u64, value: T, receivers: u64) -> Option<Value<T>> {
-        self.small.ready().unwrap_or_else(no_memory);
+        if let Err(refused) = self.small.ready() {
+            no_memory(refused)
+        }
         let value = match receivers {
             1 => Value::Own(value),
             _ => Value::Shared(Arc::new(Reentrant::new(value))),

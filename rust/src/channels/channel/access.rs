@@ -1,7 +1,7 @@
 //! How a call locks its channel: by what it is made, and by whom.
 
 use super::{CallSite, LockedChannel, RecordedChannel};
-use crate::channels::actors;
+use crate::channels::actors::{self, CallerNumber};
 use crate::channels::backend::Actor;
 use crate::channels::recorder::Shared;
 use crate::channels::turns::Permit;
@@ -22,6 +22,9 @@ impl Access<'_> {
         permit: None,
     };
 }
+
+/// Who calls a channel without a recorder, which notes it at a send alone.
+const NOT_NOTED: (Actor, CallerNumber) = (Actor::FIRST, CallerNumber::NOBODY);
 
 impl RecordedChannel {
     /// Locks the channel for a call by the handle with this number, which is made here in the
@@ -49,18 +52,20 @@ impl RecordedChannel {
         called_at: CallSite,
     ) -> LockedChannel<'_> {
         let Some(recorder) = &self.recorder.0 else {
-            return LockedChannel::of(self, Access::UNRECORDED, Actor::FIRST, handle, called_at);
+            return LockedChannel::of(self, Access::UNRECORDED, NOT_NOTED, handle, called_at);
         };
+        // Without optimization it is a call each time that the recorder is found by its `Arc`.
+        let recorder: &Shared = recorder;
         let permit = match self.ordered {
             Some(_) => self.pass_gate(handle, word, called_at),
             None => None,
         };
-        let actor = actors::current(recorder.id, |task| recorder.find_actor(task, called_at));
+        let by = actors::current(recorder.id, |task| recorder.find_actor(task, called_at));
         let access = Access {
             recorder: Some(recorder),
             permit,
         };
-        LockedChannel::of(self, access, actor, handle, called_at)
+        LockedChannel::of(self, access, by, handle, called_at)
     }
 
     /// Waits for the turn of a call by the handle with this number in a replay. It is called before
@@ -88,10 +93,10 @@ impl RecordedChannel {
         handle: u32,
         called_at: CallSite,
     ) -> LockedChannel<'a> {
-        let actor = match access.recorder {
-            Some(recorder) => recorder.actor(called_at),
-            None => Actor::FIRST,
+        let by = match access.recorder {
+            Some(recorder) => recorder.caller(called_at),
+            None => NOT_NOTED,
         };
-        LockedChannel::of(self, access, actor, handle, called_at)
+        LockedChannel::of(self, access, by, handle, called_at)
     }
 }

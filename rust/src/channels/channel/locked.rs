@@ -5,7 +5,7 @@ use super::{
     Access, Call, CallSite, ChannelState, CoreChannel, ListedCall, NO_SLOT, RecordedChannel, Send,
     Slot,
 };
-use crate::channels::actors;
+use crate::channels::actors::{self, CallerNumber};
 use crate::channels::backend::{Actor, Caller};
 use crate::channels::channel_lock::ChannelGuard;
 use crate::channels::events::{Close, Event, Lag};
@@ -28,9 +28,13 @@ use std::sync::Arc;
 pub(crate) struct LockedChannel<'a> {
     pub(crate) state: ChannelGuard<'a, ChannelState>,
     channel: &'a RecordedChannel,
-    access: Access<'a>,
+    recorder: Option<&'a Shared>,
+    // Of the next call, in a replay.
+    permit: Option<Permit<'a>>,
     actor: Actor,
     handle: u32,
+    // Who calls, where there is a recorder.
+    caller: CallerNumber,
     called_at: CallSite,
     // The stamp of the last call, or 0 if it isn't recorded.
     stamp: u64,
@@ -90,13 +94,32 @@ fn tell_made(permit: Option<Permit<'_>>, is_recorded: bool, text: Option<&str>) 
     }
 }
 
+/// A call of the core, as those who make it know it.
+// A closure would be called by one more function where nothing is inlined.
+pub(super) trait CoreCall: Copy {
+    /// Makes the call by the handle with this number.
+    fn make(self, state: &mut ChannelState, caller: Caller, handle: u32) -> Reply;
+}
+
+impl CoreCall for Call {
+    #[inline(always)]
+    fn make(self, state: &mut ChannelState, caller: Caller, handle: u32) -> Reply {
+        self(&mut state.core, caller, handle)
+    }
+}
+
+/// It sends the next value.
+impl CoreCall for Send {
+    #[inline(always)]
+    fn make(self, state: &mut ChannelState, caller: Caller, handle: u32) -> Reply {
+        self(&mut state.core, caller, handle, state.value_count)
+    }
+}
+
 /// Makes a call of a channel without a recorder.
 #[inline(always)]
-fn call_unrecorded(
-    state: &mut ChannelState,
-    call: impl Fn(&mut ChannelState, Caller) -> Reply,
-) -> Reply {
-    let reply = call(state, Caller::UNRECORDED);
+fn call_unrecorded(state: &mut ChannelState, handle: u32, call: impl CoreCall) -> Reply {
+    let reply = call.make(state, Caller::UNRECORDED, handle);
     if reply.leaves_entry() {
         reply
     } else {
@@ -110,16 +133,18 @@ impl<'a> LockedChannel<'a> {
     pub(super) fn of(
         channel: &'a RecordedChannel,
         access: Access<'a>,
-        actor: Actor,
+        (actor, caller): (Actor, CallerNumber),
         handle: u32,
         called_at: CallSite,
     ) -> LockedChannel<'a> {
         LockedChannel {
             state: channel.state.lock(),
             channel,
-            access,
+            recorder: access.recorder,
+            permit: access.permit,
             actor,
             handle,
+            caller,
             called_at,
             stamp: 0,
         }
@@ -129,10 +154,7 @@ impl<'a> LockedChannel<'a> {
     #[cfg_attr(debug_assertions, inline(never))]
     #[cfg_attr(not(debug_assertions), inline(always))]
     pub(crate) fn call(&mut self, call: Call) -> Reply {
-        let handle = self.handle;
-        self.call_core(&None, move |state, caller| {
-            call(&mut state.core, caller, handle)
-        })
+        self.call_core(&None, call)
     }
 
     /// Makes a call that creates a handle of this kind, and returns its slot with the reply. If a
@@ -162,17 +184,17 @@ impl<'a> LockedChannel<'a> {
     #[cfg_attr(debug_assertions, inline(never))]
     #[cfg_attr(not(debug_assertions), inline(always))]
     pub(crate) fn send(&mut self, text: Option<String>, call: Send) -> (u64, Reply) {
-        let handle = self.handle;
-        let reply = self.call_core(&text, move |state, caller| {
-            call(&mut state.core, caller, handle, state.value_count)
-        });
+        let reply = self.call_core(&text, call);
         let state = &mut *self.state;
         let number = state.value_count;
         state.value_count = number + 1;
         match reply {
             Reply::NoReceivers(_) => state.unsent_count += 1,
             _ => {
-                state.last_send.note(self.called_at);
+                match self.recorder {
+                    Some(_) => state.last_send.note_of(self.caller, self.called_at),
+                    None => state.last_send.note(self.called_at),
+                }
                 state.sent_stamp = self.stamp;
             }
         }
@@ -186,17 +208,13 @@ impl<'a> LockedChannel<'a> {
     /// Makes a call. It gets the recorder's next number under the channel's lock, so stamps differ
     /// and are in the order of the calls: on each channel, and on several channels if one call
     /// returned before the other began. `text` is that of the value that it sends.
-    // Where it isn't inlined, the core's call is one by a pointer. `call` borrows the state, which
-    // is borrowed here once: without optimization that takes a call each time.
+    // Where it isn't inlined, the core's call is one by a pointer. The state is borrowed once:
+    // without optimization that takes a dozen instructions each time.
     #[inline(always)]
-    fn call_core(
-        &mut self,
-        text: &Option<String>,
-        call: impl Fn(&mut ChannelState, Caller) -> Reply,
-    ) -> Reply {
-        let state = &mut *self.state;
-        let Some(recorder) = self.access.recorder else {
-            return call_unrecorded(state, call);
+    fn call_core(&mut self, text: &Option<String>, call: impl CoreCall) -> Reply {
+        let (state, handle) = (&mut *self.state, self.handle);
+        let Some(recorder) = self.recorder else {
+            return call_unrecorded(state, handle, call);
         };
         let (actor, called_at) = (self.actor, self.called_at);
         let clock;
@@ -215,18 +233,17 @@ impl<'a> LockedChannel<'a> {
             self.stamp = state.stamp_after(clock);
         }
         let caller = Caller { actor, clock };
-        let reply = call(state, caller);
+        let reply = call.make(state, caller, handle);
         if !reply.leaves_entry() {
-            let (channel, permit) = (self.channel, self.access.permit.take());
-            let reply = channel.end_unrecorded(state, permit, caller, reply, call);
+            let (channel, permit) = (self.channel, self.permit.take());
+            let by = (caller, handle);
+            let reply = channel.end_unrecorded(state, permit, by, reply, call);
             self.stamp = state.stamp_after(clock);
             return reply;
         }
-        let Some(_permit) = &self.access.permit else {
-            return reply;
-        };
-        let permit = self.access.permit.take();
-        tell_made(permit, state.is_recorded, text.as_deref());
+        if let Some(_permit) = &self.permit {
+            tell_made(self.permit.take(), state.is_recorded, text.as_deref());
+        }
         reply
     }
 
@@ -236,13 +253,14 @@ impl<'a> LockedChannel<'a> {
         self.state.note_waited();
     }
 
-    /// Notes that the receiver in this slot has received a value. Returns whether a call of it that
-    /// waits is listed.
+    /// Notes that the receiver in this slot has received a value. Returns the channel's state, and
+    /// whether a call of the receiver that waits is listed.
     #[cfg_attr(debug_assertions, inline(never))]
     #[cfg_attr(not(debug_assertions), inline(always))]
-    pub(crate) fn note_receive(&mut self, slot: Slot) -> bool {
+    pub(crate) fn note_receive(&mut self, slot: Slot) -> (&mut ChannelState, bool) {
         let state = &mut *self.state;
-        state.receivers.receive(slot, self.called_at, self.stamp)
+        let has_wait = state.receivers.receive(slot, self.called_at, self.stamp);
+        (state, has_wait)
     }
 
     /// Notes that the receiver in this slot was told that it has lost values. Returns the event, to
@@ -258,7 +276,7 @@ impl<'a> LockedChannel<'a> {
 
     /// Returns the greatest stamp that a recorded call can have so far.
     pub(crate) fn clock(&self) -> u64 {
-        self.access.recorder.map_or(0, |recorder| recorder.last())
+        self.recorder.map_or(0, |recorder| recorder.last())
     }
 
     /// Unlocks the channel.
@@ -287,13 +305,16 @@ impl<'a> LockedChannel<'a> {
 
     /// Unlocks the channel without a call, and returns by what the call is made.
     pub(crate) fn into_access(self) -> Access<'a> {
-        self.access
+        Access {
+            recorder: self.recorder,
+            permit: self.permit,
+        }
     }
 
     /// Says that the call has to wait, if it was its turn in a replay.
     #[inline]
     pub(crate) fn would_wait(&mut self) {
-        if let Some(permit) = self.access.permit.take() {
+        if let Some(permit) = self.permit.take() {
             permit.would_wait();
         }
     }
@@ -323,7 +344,7 @@ impl<'a> LockedChannel<'a> {
     /// Whether the channel belongs to a recorder.
     #[inline]
     pub(crate) fn has_recorder(&self) -> bool {
-        self.access.recorder.is_some()
+        self.recorder.is_some()
     }
 
     /// Notes this call as the look with this number. The numbers of looks that were noted before

@@ -1,5 +1,6 @@
 //! How a call of a channel is recorded: with all others, among the last ones, or not at all.
 
+use super::locked::CoreCall;
 use super::{CallSite, ChannelState, RecordedChannel};
 use crate::channels::backend::{Actor, Caller};
 use crate::channels::recorder::Shared;
@@ -109,16 +110,16 @@ impl RecordedChannel {
         &self,
         state: &mut ChannelState,
         permit: Option<Permit<'_>>,
-        caller: Caller,
+        (caller, handle): (Caller, u32),
         mut reply: Reply,
-        call: impl Fn(&mut ChannelState, Caller) -> Reply,
+        call: impl CoreCall,
     ) -> Reply {
         let called_at = state.remove_location();
         if reply == Reply::JournalFull {
             if !self.goes_on_past_limit(state, (caller, called_at)) {
                 self.end_recording(state);
             }
-            reply = call(state, caller);
+            reply = call.make(state, caller, handle);
             if reply.leaves_entry() {
                 return reply;
             }

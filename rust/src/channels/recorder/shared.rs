@@ -4,7 +4,7 @@ use super::flight::{Flight, WriteDump};
 use super::makers::Makers;
 use super::noted_panic::PATIENCE;
 use super::texts::Texts;
-use crate::channels::actors::{self, Actors};
+use crate::channels::actors::{self, Actors, CallerNumber};
 use crate::channels::atomic::AtomicU64;
 use crate::channels::backend::Actor;
 use crate::channels::channel::{CallSite, ChannelState, Known, SendMade};
@@ -363,6 +363,13 @@ impl Shared {
     /// Returns the actor of a call that is made here in the source.
     #[inline(always)]
     pub(crate) fn actor(&self, called_at: CallSite) -> Actor {
+        self.caller(called_at).0
+    }
+
+    /// Returns the actor of a call that is made here in the source, and the number by which a
+    /// channel notes who has sent last.
+    #[inline(always)]
+    pub(crate) fn caller(&self, called_at: CallSite) -> (Actor, CallerNumber) {
         actors::current(self.id, move |task| self.find_actor(task, called_at))
     }
 
