@@ -142,7 +142,8 @@ impl Recording {
     pub(crate) fn resize_chunks(&mut self, size: usize) -> Option<usize> {
         let flight = self.last.as_mut()?;
         let kept = flight.len() as usize;
-        let mut sizes = [size, size.min(kept)].into_iter();
+        let sizes = [size, size.min(kept)];
+        let mut sizes = sizes.iter().copied();
         sizes.find(|size| *size > 0 && flight.resize(*size))
     }
 

@@ -45,117 +45,105 @@ fn read<T, R: 'static>(value: &T, read: impl FnOnce(&dyn Any) -> R) -> R {
     read(erased.as_any())
 }
 
-/// How the text of a value of one type is made. Each is told apart from writing it, since rustc
-/// compiles all that is in one of these for each of some 200 types.
-#[derive(Clone, Copy)]
-enum KnownType {
-    Value(fn(&dyn Any) -> Option<&dyn Debug>),
-    Pair(fn(&dyn Any) -> Option<[&dyn Debug; 2]>),
+/// A value whose type is known.
+enum KnownValue<'a> {
+    Value(&'a dyn Debug),
+    Pair(&'a dyn Debug, &'a dyn Debug),
     /// The text of a text is itself: a report has it in quotation marks.
-    Text(fn(&dyn Any) -> Option<&str>),
+    Text(&'a str),
 }
 
-impl KnownType {
-    fn text_of(self, value: &dyn Any) -> Option<String> {
-        Some(match self {
-            KnownType::Value(of) => format!("{:?}", of(value)?),
-            KnownType::Pair(of) => {
-                let [one, other] = of(value)?;
-                format!("({one:?}, {other:?})")
-            }
-            KnownType::Text(of) => of(value)?.to_string(),
-        })
+impl KnownValue<'_> {
+    fn text(self) -> String {
+        match self {
+            KnownValue::Value(value) => format!("{value:?}"),
+            KnownValue::Pair(one, other) => format!("({one:?}, {other:?})"),
+            KnownValue::Text(text) => text.to_string(),
+        }
     }
 }
 
-fn as_value<T: Debug + 'static>(value: &dyn Any) -> Option<&dyn Debug> {
-    match value.downcast_ref::<T>() {
-        Some(value) => Some(value),
-        None => None,
-    }
+/// Reads a value as one of a few types.
+type Reader = fn(&dyn Any) -> Option<KnownValue<'_>>;
+
+/// Of each type, what has a value of it and pairs of it with another are known too. All of them
+/// have one reader, since rustc compiles it for each of 19 types.
+macro_rules! family {
+    ($one:ident: $($whole:ty)*; $($other:ty)*) => {
+        fn add_family<$one: Debug + 'static>(known: &mut KnownTypes) {
+            let ids = [$(TypeId::of::<$whole>(),)* $(TypeId::of::<($one, $other)>()),*];
+            add(known, &ids, read_family::<$one>);
+        }
+
+        fn read_family<$one: Debug + 'static>(value: &dyn Any) -> Option<KnownValue<'_>> {
+            $(if let Some(value) = value.downcast_ref::<$whole>() {
+                return Some(KnownValue::Value(value));
+            })*
+            $(if let Some((one, other)) = value.downcast_ref::<($one, $other)>() {
+                return Some(KnownValue::Pair(one, other));
+            })*
+            None
+        }
+    };
 }
 
-fn as_pair<T: Debug + 'static, U: Debug + 'static>(value: &dyn Any) -> Option<[&dyn Debug; 2]> {
-    match value.downcast_ref::<(T, U)>() {
-        Some((one, other)) => Some([one, other]),
-        None => None,
-    }
+family! { T: T Option<T> Vec<T> Arc<T>; u32 u64 usize i32 bool f64 String &'static str }
+
+macro_rules! texts {
+    ($($text:ty)*) => {
+        fn add_texts(known: &mut KnownTypes) {
+            add(known, &[$(TypeId::of::<$text>()),*], read_text);
+        }
+
+        fn read_text(value: &dyn Any) -> Option<KnownValue<'_>> {
+            $(if let Some(text) = value.downcast_ref::<$text>() {
+                return Some(KnownValue::Text(text));
+            })*
+            None
+        }
+    };
 }
 
-fn as_text<T: AsRef<str> + 'static>(value: &dyn Any) -> Option<&str> {
-    match value.downcast_ref::<T>() {
-        Some(value) => Some(value.as_ref()),
-        None => None,
-    }
-}
-
-fn text_in_arc(value: &dyn Any) -> Option<&str> {
-    Some(value.downcast_ref::<Arc<String>>()?)
-}
+texts! { String &'static str Arc<str> Box<str> Arc<String> }
 
 /// The types whose values have texts by themselves, in the order of their ids.
-type KnownTypes = Vec<(TypeId, KnownType)>;
+type KnownTypes = Vec<(TypeId, Reader)>;
 
-/// The rows of each of these types, of what has a value of it, and of pairs of two.
-macro_rules! rows {
-    (pair $of:ty, $and:ty) => {
-        (TypeId::of::<($of, $and)>(), KnownType::Pair(as_pair::<$of, $and>))
-    };
-    ($($of:ty)*) => {
-        [$(
-            (TypeId::of::<$of>(), KnownType::Value(as_value::<$of>)),
-            (TypeId::of::<Option<$of>>(), KnownType::Value(as_value::<Option<$of>>)),
-            (TypeId::of::<Vec<$of>>(), KnownType::Value(as_value::<Vec<$of>>)),
-            (TypeId::of::<Arc<$of>>(), KnownType::Value(as_value::<Arc<$of>>)),
-            rows!(pair $of, u32),
-            rows!(pair $of, u64),
-            rows!(pair $of, usize),
-            rows!(pair $of, i32),
-            rows!(pair $of, bool),
-            rows!(pair $of, f64),
-            rows!(pair $of, String),
-            rows!(pair $of, &'static str),
-        )*]
-    };
+fn add(known: &mut KnownTypes, ids: &[TypeId], reader: Reader) {
+    known.push_all(ids.iter().map(|id| (*id, reader)));
 }
 
 fn known_types() -> KnownTypes {
-    let values = rows! {
+    let mut known = KnownTypes::new();
+    macro_rules! add_families {
+        ($($one:ty)*) => {
+            $(add_family::<$one>(&mut known);)*
+        };
+    }
+    // A text is there twice, and is read as a text.
+    add_texts(&mut known);
+    add_families! {
         u8 u16 u32 u64 u128 usize i8 i16 i32 i64 i128 isize f32 f64 bool char Duration String
         &'static str
-    };
-    let texts = [
-        (TypeId::of::<String>(), KnownType::Text(as_text::<String>)),
-        (TypeId::of::<&str>(), KnownType::Text(as_text::<&str>)),
-        (
-            TypeId::of::<Arc<str>>(),
-            KnownType::Text(as_text::<Arc<str>>),
-        ),
-        (
-            TypeId::of::<Box<str>>(),
-            KnownType::Text(as_text::<Box<str>>),
-        ),
-        (TypeId::of::<Arc<String>>(), KnownType::Text(text_in_arc)),
-    ];
-    let mut known = KnownTypes::new();
-    // A text is there twice, and is read as a text.
-    known.push_all(texts);
-    known.push_all(values);
+    }
     sort_by_key(&mut known, |(id, _)| *id);
     known
 }
 
-/// Returns how the text of a value of this type is made.
-fn known_type(id: TypeId) -> Option<KnownType> {
+/// Returns what reads a value of this type.
+fn reader_of(id: TypeId) -> Option<Reader> {
     static KNOWN: OnceLock<KnownTypes> = OnceLock::new();
     let known = KNOWN.get_or_init(known_types);
-    let (of_type, how) = known.get(known.partition_point(|(of_type, _)| *of_type < id))?;
-    (*of_type == id).then_some(*how)
+    let (of_type, reader) = known.get(known.partition_point(|(of_type, _)| *of_type < id))?;
+    (*of_type == id).then_some(*reader)
 }
 
 /// Returns the text of a value, if its type is one of those that are known by themselves.
 pub(crate) fn text_of<T>(value: &T) -> Option<String> {
-    let text = read(value, |value| known_type(value.type_id())?.text_of(value));
+    let text = read(value, |value| {
+        let reader = reader_of(value.type_id())?;
+        Some(reader(value)?.text())
+    });
     #[cfg(feature = "debug_values")]
     let text = text.or_else(|| any_debug::text_of(value));
     text
@@ -195,7 +183,7 @@ fn known_error_in<T>(output: &T) -> Option<String> {
             error_of::<crate::channels::broadcast::error::TryRecvError>(output),
             error_of::<crate::channels::watch::error::RecvError>(output),
         ];
-        let error = errors.into_iter().flatten().next()?;
+        let error = errors.iter().find_map(|error| *error)?;
         Some(format!("{error:?}"))
     })
 }

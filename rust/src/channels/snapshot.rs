@@ -134,10 +134,10 @@ impl NumberedCall {
 
     /// Adds when these calls of a channel with this state were made, at this time of the recorder's
     /// clock.
-    fn add_times(calls: Vec<&mut NumberedCall>, state: &mut ChannelState, clock: u64) {
+    fn add_times(mut calls: Vec<&mut NumberedCall>, state: &mut ChannelState, clock: u64) {
         let stamps: Vec<_> = calls.iter().map(|call| call.stamp).listed();
-        for (call, wall) in calls.into_iter().zip(state.when(&stamps, clock)) {
-            call.wall = wall;
+        for (call, wall) in calls.iter_mut().zip(&state.when(&stamps, clock)) {
+            call.wall = *wall;
         }
     }
 

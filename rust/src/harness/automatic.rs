@@ -236,8 +236,8 @@ pub(super) fn report_in_hook() {
     }
     if let Some(test) = test_of_this_thread() {
         let (lines, other) = (lines_on(&test), line_on_other(&test));
-        for line in [lines, other].into_iter().flatten() {
-            eprint!("{line}");
+        for text in &[lines, other] {
+            eprint!("{}", text.as_deref().unwrap_or_default());
         }
     }
 }

@@ -15,7 +15,7 @@ use std::panic::Location;
 
 /// Returns why nothing may have been recorded in this process, in one sentence.
 pub(super) fn likely_cause() -> String {
-    let first = of_none().into_iter().find_map(|it| it.made_at);
+    let first = of_none().iter().find_map(|it| it.made_at);
     first.map_or_else(by_build, |at| of_no_recorder("", at))
 }
 

@@ -54,7 +54,8 @@ pub(super) fn of(journal: &Path, test: &TestRun) -> String {
 
 /// Returns the line that compares this journal with the one that was replayed.
 pub(super) fn comparing(journal: &Path, replayed: &Path) -> String {
-    let [journal, replayed] = [journal, replayed].map(|path| quoted(&path.to_string_lossy()));
+    let word = |path: &Path| quoted(&path.to_string_lossy());
+    let (journal, replayed) = (word(journal), word(replayed));
     format!("compare: yovanelum why {journal} --against {replayed}\n")
 }
 
@@ -64,9 +65,11 @@ fn cargo_words(run: &CargoRun, package: &str, target: &[String]) -> Vec<String> 
     let mut words: Vec<_> = variables
         .map(|(name, value)| assigned(name, value))
         .listed();
-    words.push_all(["cargo".to_string(), quoted(&run.verb)]);
+    words.push("cargo".to_string());
+    words.push(quoted(&run.verb));
     words.push_all(run.options.iter().map(|option| quoted(option)));
-    words.push_all(["-p".to_string(), quoted(package)]);
+    words.push("-p".to_string());
+    words.push(quoted(package));
     words.push_all(target.iter().map(|word| quoted(word)));
     words
 }

@@ -264,7 +264,7 @@ impl RunSoFar<'_> {
             source_names::add(&mut names, &run);
         }
         names.fit_to(&run, &journal);
-        names.add_sources(|paths| Program::this().root_of(paths));
+        names.add_sources(&|paths| Program::this().root_of(paths));
         Ok(Saved {
             run,
             journal,
@@ -284,8 +284,8 @@ impl RunSoFar<'_> {
                 continue;
             };
             let handle = lock(channel).core.nth(then.then.wait.handle);
-            let index_of = |at: &Location<'_>| names.index_of(&at.into());
-            let call = waiting_call(&then.then, (number, handle), index_of);
+            let mut index_of = |at: &Location<'_>| names.index_of(&at.into());
+            let call = waiting_call(&then.then, (number, handle), &mut index_of);
             match names.waiting.iter_mut().find(|it| it.is_same(&call)) {
                 Some(waiting) => waiting.woken = call.woken,
                 None => names.waited_at_failure.push(call),
@@ -300,8 +300,8 @@ impl RunSoFar<'_> {
         let here = env::current_dir().unwrap_or_default();
         for (number, channel) in (0..).zip(&self.channels) {
             let drops = lock(channel).seldom().last_drops.clone();
-            let frames = drops.stacks().map(|stack| stacks::first_own(stack?, &here));
-            for (which, frame) in (0..).zip(frames) {
+            for (which, stack) in (0..).zip(&drops.stacks()) {
+                let frame = stack.and_then(|stack| stacks::first_own(stack, &here));
                 let Some(Frame { function, location }) = frame else {
                     continue;
                 };
@@ -438,12 +438,12 @@ impl Indexes {
 
     /// Describes a call that waits, by the numbers of its channel and handle.
     pub(super) fn waiting(&mut self, call: &WaitNow, channel: u64, handle: u64) -> WaitingCall {
-        waiting_call(call, (channel, handle), |location| self.of(location))
+        waiting_call(call, (channel, handle), &mut |location| self.of(location))
     }
 
     /// Describes a call that began to wait, and no longer does, in the same way.
     fn begun(&mut self, wait: &Wait, channel: u64, handle: u64) -> WaitingCall {
-        begun_call(wait, (channel, handle), |location| self.of(location))
+        begun_call(wait, (channel, handle), &mut |location| self.of(location))
     }
 
     fn of_all(&mut self, sites: &CallSites) -> Vec<Option<usize>> {
@@ -459,7 +459,7 @@ impl Indexes {
 fn waiting_call(
     call: &WaitNow,
     (channel, handle): (u64, u64),
-    index_of: impl FnMut(&'static Location<'static>) -> usize,
+    index_of: &mut dyn FnMut(&'static Location<'static>) -> usize,
 ) -> WaitingCall {
     WaitingCall {
         woken: call.is_woken(),
@@ -471,13 +471,13 @@ fn waiting_call(
 fn begun_call(
     wait: &Wait,
     (channel, handle): (u64, u64),
-    mut index_of: impl FnMut(&'static Location<'static>) -> usize,
+    index_of: &mut dyn FnMut(&'static Location<'static>) -> usize,
 ) -> WaitingCall {
     let held_by = match wait.awaited {
         Awaited::Value | Awaited::NoReceiver => None,
         Awaited::Lock(look) => Some(HeldBy {
             actor: look.map(|look| look.actor.number().into()),
-            location: look.and_then(|look| look.called_at).map(&mut index_of),
+            location: look.and_then(|look| look.called_at).map(&mut *index_of),
         }),
     };
     WaitingCall {

@@ -200,10 +200,9 @@ impl Callers {
 
     /// Adds their names to those of the actors.
     fn add_to(self, names: &mut Sidecar) {
-        let named = self.0.into_items().into_iter();
-        names
-            .actors
-            .extend(named.map(|(name, number)| (number, name.to_string())));
+        for (name, number) in self.0.iter() {
+            names.actors.insert(*number, name.to_string());
+        }
     }
 }
 

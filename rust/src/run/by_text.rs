@@ -99,8 +99,8 @@ impl<V> TextMap<V> {
 
     /// Adds a text that has no value, and returns its place.
     fn add(&mut self, text: &str, value: V) -> usize {
-        let (text, place) = (Arc::<str>::from(text), self.items.len());
-        self.places.insert(text.clone(), place);
+        let place = self.items.len();
+        let text = inserted(&mut self.places, text, place);
         self.items.push((text, value));
         place
     }
@@ -126,6 +126,13 @@ impl<V> TextMap<V> {
     pub(crate) fn into_items(self) -> Vec<(Arc<str>, V)> {
         self.items
     }
+}
+
+/// Inserts the place of a text, for values of any type.
+fn inserted(places: &mut BTreeMap<Arc<str>, usize>, text: &str, place: usize) -> Arc<str> {
+    let text = Arc::<str>::from(text);
+    places.insert(text.clone(), place);
+    text
 }
 
 impl<V> Default for TextMap<V> {

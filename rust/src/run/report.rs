@@ -228,10 +228,8 @@ fn push_fact(
         lines.push(arrow(location));
         if let Some(source) = sources.and_then(|sources| sources.of(location)) {
             let label = format!("{} {}", source.carets, fact.label(step));
-            lines.push_all([
-                source.line,
-                source.below + &colours.label(level, nth, &label),
-            ]);
+            lines.push(source.line);
+            lines.push(source.below + &colours.label(level, nth, &label));
             shown.push(step);
         }
     }

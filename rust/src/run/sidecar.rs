@@ -249,7 +249,7 @@ impl Sidecar {
         });
         push_map(out, "callers", &self.callers, push_indexes);
         push_map(out, "tasks", &self.tasks, push_number);
-        for (key, waits) in [
+        for (key, waits) in &[
             ("waiting", &self.waiting),
             ("waited_at_failure", &self.waited_at_failure),
             ("dropped_waits", &self.dropped_waits),
@@ -371,7 +371,7 @@ fn push_waiting(out: &mut String, wait: &WaitingCall) {
     if let Some(woken) = wait.woken {
         let _ = write!(out, ", \"woken\": {woken}");
     }
-    for (key, number) in [("until", wait.until), ("waited", wait.waited)] {
+    for (key, number) in &[("until", wait.until), ("waited", wait.waited)] {
         if let Some(number) = number {
             let _ = write!(out, ", \"{key}\": {number}");
         }

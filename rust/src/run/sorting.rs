@@ -12,7 +12,9 @@ pub(crate) fn sort_by<T>(items: &mut [T], order: impl Fn(&T, &T) -> Ordering) {
 
 /// Sorts a list by the keys of its items. Items with equal keys stay in their order.
 pub(crate) fn sort_by_key<T, K: Ord>(items: &mut [T], key: impl Fn(&T) -> K) {
-    sort_by(items, |one, other| key(one).cmp(&key(other)));
+    let order = |one: usize, other: usize| key(&items[one]).cmp(&key(&items[other]));
+    let places = sorted_places(items.len(), &order);
+    move_to_places(places, &mut |one, other| items.swap(one, other));
 }
 
 /// Returns the places of `count` items, in the order of these.

@@ -167,7 +167,7 @@ impl LastCalls {
     /// Returns the first of the last `count` sends, if it is kept.
     pub(super) fn send_before_last(&self, count: u64) -> Option<SendMade> {
         let mut count = usize::try_from(count).ok()?;
-        for chunk in [&self.newer, &self.older] {
+        for chunk in &[&self.newer, &self.older] {
             let found = chunk.sends.len().checked_sub(count);
             if let Some((before, actor)) = found.and_then(|index| chunk.sends.get(index)) {
                 return Some(SendMade {
@@ -378,7 +378,7 @@ impl LastCalls {
         let count = self.retained.len() + older.texts.len() + newer.texts.len();
         let mut texts = reserved(count)?;
         texts.push_all(self.retained.iter().cloned());
-        for chunk in [older, newer] {
+        for chunk in &[older, newer] {
             texts.push_all(chunk.texts.iter().map(|it| (it.number, it.text.clone())));
         }
         Ok(LastCallsCopy {

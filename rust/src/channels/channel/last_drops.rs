@@ -43,6 +43,6 @@ impl DropStacks {
 
     /// Returns the stack of the drop of the last sender, and that of the last receiver.
     pub(crate) fn stacks(&self) -> [Option<&Backtrace>; 2] {
-        [&self.sender, &self.receiver].map(|stack| stack.as_deref())
+        [self.sender.as_deref(), self.receiver.as_deref()]
     }
 }

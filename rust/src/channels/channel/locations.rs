@@ -107,7 +107,7 @@ impl CallSites {
     /// The parts of the list, in their order.
     fn parts(&self) -> impl Iterator<Item = &[CallSite]> {
         let first = iter::once(&self.first[..self.first_len]);
-        let whole = self.whole().iter().chain([&self.last]);
+        let whole = self.whole().iter().chain(iter::once(&self.last));
         first.chain(whole.map(Vec::as_slice))
     }
 

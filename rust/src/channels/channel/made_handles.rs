@@ -4,7 +4,7 @@
 use super::CallSite;
 use crate::core::lists::reserved;
 use crate::core::source::rw_law::NoMemory;
-use crate::run::listed::PushAll;
+use crate::run::listed::{IntoList, PushAll};
 use std::mem;
 
 /// The handles of a table. Those that the table forgets are forgotten here too.
@@ -22,10 +22,9 @@ impl MadeHandles {
     /// Those of a table that has these handles, each with how many were created before and where it
     /// was. `next` handles were created in all.
     pub(super) fn of(handles: Vec<(u64, CallSite)>, next: u64) -> MadeHandles {
-        let (survivors, sites) = handles.into_iter().unzip();
         MadeHandles {
-            sites,
-            survivors,
+            sites: handles.iter().map(|(_, site)| *site).listed(),
+            survivors: handles.iter().map(|(number, _)| *number).listed(),
             next,
         }
     }

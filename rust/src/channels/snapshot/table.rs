@@ -3,7 +3,7 @@
 use super::{ChannelSnapshot, NumberedCall, ReceiverSnapshot, Snapshot, Waits};
 use crate::channels::channel::CallSite;
 use crate::run::clock::utc;
-use crate::run::listed::PushAll;
+use crate::run::listed::{IntoList, PushAll};
 use std::fmt;
 
 /// The heads of the columns. Those of numbers are on the right.
@@ -21,7 +21,7 @@ const HEADS: [&str; 8] = [
 /// The columns of numbers.
 const NUMBERS: [usize; 4] = [1, 2, 3, 6];
 
-type Row = [String; HEADS.len()];
+type Row = Vec<String>;
 
 impl fmt::Display for Snapshot {
     /// Formats the channels one below the other.
@@ -55,7 +55,7 @@ impl fmt::Display for ChannelSnapshot {
         if self.receivers.is_empty() {
             return writeln!(f, "  no receivers");
         }
-        let mut rows = vec![HEADS.map(str::to_string)];
+        let mut rows = vec![HEADS.iter().map(|head| head.to_string()).listed()];
         rows.push_all(self.receivers.iter().map(row));
         fmt_rows(&rows, f)
     }
@@ -72,7 +72,7 @@ impl fmt::Display for NumberedCall {
 
 fn row(receiver: &ReceiverSnapshot) -> Row {
     let received = receiver.received.map(|call| call.to_string());
-    [
+    vec![
         receiver.name.clone(),
         receiver.unread.to_string(),
         receiver.lag.to_string(),
@@ -113,10 +113,11 @@ fn place(at: CallSite) -> String {
 
 fn fmt_rows(rows: &[Row], f: &mut fmt::Formatter<'_>) -> fmt::Result {
     let width = |column: usize| rows.iter().map(|row| row[column].chars().count()).max();
-    let widths: [usize; HEADS.len()] = std::array::from_fn(|column| width(column).unwrap_or(0));
+    let columns = 0..HEADS.len();
+    let widths: Vec<_> = columns.map(|column| width(column).unwrap_or(0)).listed();
     for row in rows {
         let mut line = String::new();
-        for (column, (text, width)) in row.iter().zip(widths).enumerate() {
+        for (column, (text, &width)) in row.iter().zip(&widths).enumerate() {
             if NUMBERS.contains(&column) {
                 line.push_str(&format!("  {text:>width$}"))
             } else {

@@ -4,7 +4,7 @@
 
 use crate::harness::program::Program;
 use crate::run::by_text::TextMap;
-use crate::run::listed::{IntoList, PushAll};
+use crate::run::listed::IntoList;
 use std::fs;
 use std::ops::RangeInclusive;
 use std::path::{Path, PathBuf};
@@ -107,7 +107,7 @@ fn tests() -> Option<&'static TestFunctions> {
         let (mut all, mut is_any_read) = (vec![], false);
         for (nth, path) in Program::this().sources().iter().enumerate() {
             if let Ok(text) = fs::read_to_string(path) {
-                all.push_all(tests_in(path, &text, nth == 0));
+                all.append(&mut tests_in(path, &text, nth == 0));
                 is_any_read = true;
             }
         }

@@ -10,6 +10,7 @@ use super::tries::Tries;
 use crate::harness::automatic::is_under_command;
 use crate::harness::replay_line::quoted;
 use crate::run::account::visible;
+use crate::run::listed::IntoList;
 use crate::run::sidecar::push_string;
 use crate::schedule::explore::{Order, OrderKind, POINTS, Schedule, Step, has_points};
 use std::fmt::Write;
@@ -95,9 +96,9 @@ impl FailingOrder {
     fn best_tries(&self) -> Tries {
         let mut best = self.by_order;
         let by_journal = self.by_journal.unwrap_or(best);
-        for tries in [self.by_schedule, by_journal] {
+        for tries in &[self.by_schedule, by_journal] {
             if tries.are_more_than(best) {
-                best = tries;
+                best = *tries;
             }
         }
         best
@@ -247,7 +248,7 @@ impl FailingOrder {
             json.push_str(", \"race\": ");
             push_string(json, &race.text);
         }
-        for (key, path) in [("journal", &self.journal), ("schedule", &self.schedule)] {
+        for (key, path) in &[("journal", &self.journal), ("schedule", &self.schedule)] {
             let _ = write!(json, ", \"{key}\": ");
             match path {
                 Some(path) => push_string(json, &path.to_string_lossy()),
@@ -259,11 +260,11 @@ impl FailingOrder {
             ("Schedule", self.by_schedule),
             ("Order", self.by_order),
         ];
-        for (way, tries) in ways {
+        for (way, tries) in &ways {
             let _ = write!(json, ", \"by{way}\": {}", tries.failed);
         }
-        let of = ways.map(|(_, tries)| tries.of.to_string()).join(", ");
-        let _ = write!(json, ", \"tries\": [{of}]}}");
+        let of: Vec<_> = ways.iter().map(|(_, tries)| tries.of.to_string()).listed();
+        let _ = write!(json, ", \"tries\": [{}]}}", of.join(", "));
     }
 }
 

@@ -167,7 +167,7 @@ impl TestProgram {
         let said = String::from_utf8_lossy(&fs::read(&stderr)?).into_owned();
         let schedule = Schedule::of_file(&path).ok();
         let said_of = Answer::of_file(&answer);
-        for path in [path, answer, stderr] {
+        for path in &[path, answer, stderr] {
             let _ = fs::remove_file(path);
         }
         let failure = failure(status, was_ended, &said, schedule.as_ref());
@@ -302,7 +302,7 @@ fn waits_forever(id: u32) -> bool {
     if threads.is_by_clock() {
         return false;
     }
-    let sleepers = threads.sleepers(Duration::ZERO, |_| Asked::Sleeps);
+    let sleepers = threads.sleepers(Duration::ZERO, &|_| Asked::Sleeps);
     // The main thread is the harness, which waits for the test.
     let is_of_test = |sleeper: &&Sleeper| sleeper.thread != id;
     sleepers.is_some_and(|sleepers| {

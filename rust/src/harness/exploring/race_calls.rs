@@ -32,9 +32,8 @@ impl Race {
         let run = Run::with_callers(journal.as_bytes(), &names).ok()?;
         let mut race = self.told(is_met)?;
         let calls = StepCalls::of(schedule, &run);
-        for (step, at) in [(&mut race.first, found.first), (&mut race.then, found.then)] {
-            step.stamp = calls.stamp(found, at);
-        }
+        race.first.stamp = calls.stamp(found, found.first);
+        race.then.stamp = calls.stamp(found, found.then);
         names.order.race = Some(race);
         let report = Report::on(&run, &names).ok()?;
         names.account = Some(report.account().to_json());

@@ -187,7 +187,7 @@ impl Session {
         let folder = self.program.folder.file_name();
         let part = folder.and_then(|folder| Some(Path::new(folder).join(target.file_name()?)));
         match part {
-            Some(part) => lines.replace(&format!("{}/", part.display()), ""),
+            Some(part) => lines.replace(format!("{}/", part.display()).as_str(), ""),
             None => lines.to_string(),
         }
     }
@@ -264,7 +264,7 @@ fn with_files_of(journal: &Path, named: &Path, lines: String) -> String {
         (Some(before), Some(own)) if before != own => {
             ["journal", "html"].iter().fold(lines, |lines, extension| {
                 lines.replace(
-                    &format!("/{before}.{extension}"),
+                    format!("/{before}.{extension}").as_str(),
                     &format!("/{own}.{extension}"),
                 )
             })

@@ -70,6 +70,6 @@ fn made(request: &mut DumpRequest, copied: Copied) -> io::Result<(String, Sideca
     names.times.push_all(began);
     sort_by_key(&mut names.times, |moment| moment.stamp);
     names.fit_to(&read.run, &journal);
-    names.add_sources(|paths| Program::this().root_of(paths));
+    names.add_sources(&|paths| Program::this().root_of(paths));
     Ok((journal, names))
 }

@@ -3,7 +3,7 @@
 use super::options::{self, Speaker};
 use super::{Program, TargetKind};
 use crate::harness::stand_in;
-use crate::run::listed::{IntoList, PushAll};
+use crate::run::listed::IntoList;
 use std::path::Path;
 use std::sync::OnceLock;
 use std::{env, fs};
@@ -51,9 +51,8 @@ impl CargoRun {
     /// Returns what is known of the cargo that runs this program.
     pub(crate) fn of(program: &Program) -> CargoRun {
         let is_doc = program.target.kind == TargetKind::Doc;
-        let of_target = VARIABLES
-            .into_iter()
-            .filter(|name| is_doc || *name != "RUSTDOCFLAGS");
+        let of_target = VARIABLES.iter();
+        let of_target = of_target.filter(|name| is_doc || **name != "RUSTDOCFLAGS");
         let set = of_target.filter_map(|name| {
             let value = env::var(name).ok().filter(|value| !value.is_empty())?;
             Some(for_a_shell(name, value))
@@ -92,9 +91,11 @@ impl CargoRun {
         let (verb, options) = options::read(&words[1..], speaker);
         let mut run = CargoRun {
             verb,
-            options: options.into_iter().flat_map(|option| option.words).listed(),
             ..CargoRun::default()
         };
+        for option in &options {
+            run.options.extend_from_slice(&option.words);
+        }
         if is_nextest || matches!(run.verb.as_str(), "t" | "nextest") {
             run.verb = "test".to_string();
         }
@@ -139,7 +140,10 @@ fn options_by_build(program: &Program) -> Vec<String> {
     match profile {
         None | Some("debug") => {}
         Some("release") => options.push("--release".to_string()),
-        Some(profile) => options.push_all(["--profile".to_string(), profile.to_string()]),
+        Some(profile) => {
+            options.push("--profile".to_string());
+            options.push(profile.to_string());
+        }
     }
     let has_patch = |folder: &Path| {
         let manifest = fs::read_to_string(folder.join("Cargo.toml"));
@@ -147,10 +151,8 @@ fn options_by_build(program: &Program) -> Vec<String> {
     };
     if let Some(patch) = patch().filter(|_| !program.package_folder.ancestors().any(has_patch)) {
         let path = patch.replace('\\', "\\\\").replace('"', "\\\"");
-        options.push_all([
-            "--config".to_string(),
-            format!("patch.crates-io.tokio.path=\"{path}\""),
-        ]);
+        options.push("--config".to_string());
+        options.push(format!("patch.crates-io.tokio.path=\"{path}\""));
     }
     options
 }

@@ -116,9 +116,11 @@ impl BuildOption {
 
 /// Returns the short option of a word that has its value too.
 fn joined(word: &str) -> Option<&'static str> {
-    ["-F", "-Z", "-C"]
-        .into_iter()
-        .find(|short| word.starts_with(short))
+    let shorts = &["-F", "-Z", "-C"];
+    shorts
+        .iter()
+        .find(|short| word.starts_with(**short))
+        .copied()
 }
 
 #[cfg(test)]

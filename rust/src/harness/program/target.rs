@@ -119,7 +119,7 @@ pub(super) fn hash_of(program: &Path) -> Option<String> {
 /// Returns the root file of the program's crate: the first source in the file that the compiler has
 /// left beside the program.
 pub(super) fn crate_root(program: &Path) -> Option<PathBuf> {
-    sources(program).into_iter().next()
+    sources(program).first().cloned()
 }
 
 /// Returns the sources of the program's crate, in the file that the compiler has left beside the

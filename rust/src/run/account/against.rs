@@ -119,10 +119,13 @@ impl Against {
                 ("there", number(it.there)),
             ])
         });
-        let calls = self.calls.map(Json::number);
+        let [here, there] = self.calls;
         let object = Json::object(vec![
             ("version", Json::number(1)),
-            ("calls", Json::List(calls.to_vec())),
+            (
+                "calls",
+                Json::List(vec![Json::number(here), Json::number(there)]),
+            ),
             ("differing", Json::List(differing.listed())),
             (
                 "text",
@@ -160,7 +163,7 @@ fn differing(here: &Side<'_>, there: &Side<'_>, listener: &mut impl Listener) ->
             });
         }
     }
-    let only = there.calls().zip(has_partner).filter(|(_, has)| !has);
+    let only = there.calls().zip(&has_partner).filter(|(_, has)| !**has);
     found.push_all(only.map(|((place, _), _)| Differing {
         kind: DiffersBy::More,
         here: None,

@@ -2,8 +2,8 @@
 
 use crate::run::listed::IntoList;
 
-/// How many spaces are after each column but the last.
-const SPACES: [usize; 4] = [3, 3, 2, 3];
+/// How many spaces are after each column.
+const SPACES: [usize; 5] = [3, 3, 2, 3, 0];
 
 /// A step of the run: which one, what was called, by whom, where, and what there is to say of it.
 /// What isn't known is empty.
@@ -17,15 +17,21 @@ fn length(text: &str) -> usize {
 pub(super) fn aligned(steps: &[&Cells]) -> Vec<String> {
     let mut widths = [0; 5];
     for cells in steps {
-        widths = std::array::from_fn(|column| widths[column].max(length(&cells[column])));
+        widen(&mut widths, cells);
     }
     steps.iter().map(|cells| line(cells, &widths)).listed()
+}
+
+fn widen(widths: &mut [usize; 5], cells: &Cells) {
+    for (width, cell) in widths.iter_mut().zip(cells) {
+        *width = length(cell).max(*width);
+    }
 }
 
 /// Returns the columns of a step side by side.
 fn line(cells: &Cells, widths: &[usize; 5]) -> String {
     let mut out = String::from("  ");
-    for ((cell, width), spaces) in cells.iter().zip(widths).zip(SPACES.into_iter().chain([0])) {
+    for ((cell, width), spaces) in cells.iter().zip(widths).zip(SPACES.iter()) {
         if *width > 0 {
             out.push_str(cell);
             out.push_str(&" ".repeat(width - length(cell) + spaces));

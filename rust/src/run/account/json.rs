@@ -114,16 +114,17 @@ fn replay(left: &LeftSaid) -> Json {
 }
 
 fn race_of(race: &RaceSaid) -> Json {
-    let [first, then] = race.steps.each_ref().map(|(text, place)| {
+    let [first, then] = &race.steps;
+    let step = |(text, place): &(String, Option<u64>)| {
         Json::object(vec![
             ("text", Json::text(text)),
             ("place", optional_number(*place)),
         ])
-    });
+    };
     Json::object(vec![
         ("text", Json::text(&race.text)),
-        ("first", first),
-        ("then", then),
+        ("first", step(first)),
+        ("then", step(then)),
     ])
 }
 
@@ -176,12 +177,10 @@ fn place(index: usize, step: &FactStep) -> Json {
 
 fn rest(rest: &Rest) -> Json {
     let count = |count: &KindCount, of: &'static str, sum: &'static str| {
-        let members = [(of, count.of), (sum, count.sum)];
-        Json::object(
-            members
-                .map(|(key, number)| (key, Json::number(number)))
-                .into(),
-        )
+        Json::object(vec![
+            (of, Json::number(count.of)),
+            (sum, Json::number(count.sum)),
+        ])
     };
     Json::object(vec![
         ("after", Json::number(rest.after)),

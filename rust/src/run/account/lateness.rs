@@ -8,7 +8,7 @@ mod stretches;
 mod tests;
 mod texts;
 
-use crate::run::listed::{IntoList, PushAll};
+use crate::run::listed::{IntoList, Keep, PushAll};
 pub(crate) use pending::PendingTask;
 pub(super) use pending::all as pending;
 
@@ -193,8 +193,9 @@ pub(super) fn lines(context: &Context<'_>, late: &Late) -> Vec<String> {
             context.run.entry(place).stamp
         }
     };
-    let stamps = [late.received, late.told].map(stamp);
-    let stamps: Vec<_> = stamps.into_iter().filter(|stamp| *stamp > 0).listed();
+    let stamps = [stamp(late.received), stamp(late.told)];
+    let stamps = stamps.iter().copied();
+    let stamps: Vec<_> = stamps.filter(|stamp| *stamp > 0).listed();
     let Some(task) = task_of(seen, late.actor, &stamps) else {
         return vec!["it isn't polled by a task that is seen".to_string()];
     };
@@ -231,9 +232,8 @@ impl Reasons<'_> {
         if let Some(line) = self.own_sends() {
             return vec![line];
         }
-        let stretches = stretches::within(self.own(), self.window, self.seen.now);
-        let is_busy = |stretch: &Stretch| !self.is_idle(stretch);
-        let stretches: Vec<_> = stretches.into_iter().filter(is_busy).listed();
+        let mut stretches = stretches::within(self.own(), self.window, self.seen.now);
+        stretches.keep(|stretch| !self.is_idle(stretch));
         if let Some((lines, is_alone)) = self.burst() {
             let works =
                 |it: &Stretch| !matches!(it.doing, TaskDoing::Ready) && it.to >= self.window.1;
@@ -310,7 +310,8 @@ impl Reasons<'_> {
                 is_last(stretch) || stretch.doing == TaskDoing::Waited
             }
         };
-        let mut told: Vec<_> = stretches.into_iter().filter(is_told).listed();
+        let mut told = stretches;
+        told.keep(is_told);
         // Many short waits at one place are told as one.
         if told.len() > MOST_LINES * 16 {
             sort_by_key(&mut told, |stretch| std::cmp::Reverse(stretch.time));

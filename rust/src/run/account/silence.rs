@@ -123,7 +123,7 @@ pub(super) fn found(context: &Context<'_>) -> Vec<Silence> {
 
 /// Returns the calls that waited when the test failed, or that wait now if it hangs: if the failure
 /// came of a wait. The one that began first is the first.
-fn waits_of_failure(context: &Context<'_>) -> impl Iterator<Item = Silence> {
+fn waits_of_failure(context: &Context<'_>) -> Vec<Silence> {
     let channels = context.run.specs().len() as u64;
     let is_why = match context.failure.end() {
         None => context.names.ending.hangs,
@@ -138,7 +138,8 @@ fn waits_of_failure(context: &Context<'_>) -> impl Iterator<Item = Silence> {
         }
     }
     sort_by(&mut calls, |one, other| one.cmp(other));
-    calls.into_iter().map(|(_, index)| Silence::Waits(index))
+    let indexes = calls.iter().map(|(_, index)| *index);
+    indexes.map(Silence::Waits).listed()
 }
 
 /// Whether the text of the failure says that a time was over.

@@ -85,7 +85,7 @@ impl CallTime {
 
 /// Returns a number of microseconds in one unit, rounded down.
 fn duration(microseconds: u64) -> String {
-    let mut units = UNITS.into_iter();
+    let mut units = UNITS.iter();
     let unit = units.find(|(_, of, most)| microseconds / of < *most);
     let (name, of, _) = unit.expect("the last unit has no limit");
     format!("{} {name}", microseconds / of)

@@ -61,9 +61,10 @@ impl Traffic {
         findings: &Findings,
         found: FoundTraffic,
     ) -> Traffic {
-        let mut found = found.into_iter();
-        let told = are_told(run, findings).into_iter();
-        let found = told.map(|is_told| found.next().flatten().filter(|_| is_told));
+        let mut found_by = found.into_iter();
+        let told = are_told(run, findings);
+        let found = told.iter();
+        let found = found.map(|is_told| found_by.next().flatten().filter(|_| *is_told));
         let channels = (0..).zip(found);
         let channels = channels.map(|(channel, found)| ChannelTraffic {
             found,

@@ -139,7 +139,7 @@ struct ToldAgain {
 impl ToldAgain {
     /// Says why the receiver of this name got what it knew.
     fn why(&self, name: &str) -> WhyThis {
-        let [before, changed] = [self.before, self.changed].map(visible::call);
+        let (before, changed) = (visible::call(self.before), visible::call(self.changed));
         let (text, before_it, again) = if self.is_unmarked {
             (
                 format!(

@@ -283,9 +283,9 @@ fn steps(context: &Context<'_>, overlooked: &Overlooked) -> Vec<FactStep> {
     known.push((overlooked.look, Role::Look));
     known.keep(|(place, _)| *place > context.history.lead);
     sort_by_key(&mut known, |(place, _)| *place);
-    let steps = known.into_iter();
+    let steps = known.iter();
     steps
-        .map(|(place, role)| step(context, place, role))
+        .map(|(place, role)| step(context, *place, *role))
         .listed()
 }
 

@@ -32,7 +32,7 @@ impl WindowSaid {
         if first > last {
             return Some(said);
         }
-        let [from, to] = [first, last].map(|place| run.entry(place).stamp);
+        let (from, to) = (run.entry(first).stamp, run.entry(last).stamp);
         let number = number_in_snapshots(names, from);
         let in_snapshots =
             number.map(|from| format!("calls {first} to {last} are {from} to {to} in snapshots"));

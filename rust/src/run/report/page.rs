@@ -99,11 +99,12 @@ fn push_packed(out: &mut Vec<u8>, text: &[u8], starts: [&[u8]; 2]) {
 /// Appends a text in elements of one piece each: the first begins as the first of these, and the
 /// others as the second.
 fn push_pieces(out: &mut Vec<u8>, text: &[u8], [first, further]: [&[u8]; 2]) {
-    let starts = [first].into_iter().chain(std::iter::repeat(further));
-    for (start, piece) in starts.zip(text.chunks(PIECE)) {
+    let mut start = first;
+    for piece in text.chunks(PIECE) {
         out.extend_from_slice(start);
         out.extend_from_slice(piece);
         out.extend_from_slice(SLOT_END);
+        start = further;
     }
 }
 

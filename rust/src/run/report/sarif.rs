@@ -56,7 +56,7 @@ const RULES: [(&str, &str); 14] = [
 
 /// Returns the account as a SARIF log, as a line.
 pub(crate) fn sarif(account: &Account) -> String {
-    let rules = RULES.map(|(id, text)| {
+    let rules = RULES.iter().map(|(id, text)| {
         Json::object(vec![
             ("id", Json::text(id)),
             ("shortDescription", message(text)),
@@ -65,7 +65,7 @@ pub(crate) fn sarif(account: &Account) -> String {
     let driver = Json::object(vec![
         ("name", Json::text("yovanelum")),
         ("version", Json::text(env!("CARGO_PKG_VERSION"))),
-        ("rules", Json::List(rules.into())),
+        ("rules", Json::List(rules.listed())),
     ]);
     let places = Places::of(account.root.as_deref(), env::var("GITHUB_WORKSPACE").ok());
     let mut run = vec![

@@ -45,11 +45,11 @@ fn of_system() -> Option<usize> {
     unsafe extern "C" {
         fn ioctl(file: i32, request: usize, ...) -> i32;
     }
-    [1, 2, 0].into_iter().find_map(|file| {
+    [1, 2, 0].iter().find_map(|file| {
         let mut window: Window = [0; 4];
         // SAFETY: the request writes a window, which is alive during the call. A file that is no
         // terminal, or isn't open, is refused.
-        let is_known = unsafe { ioctl(file, ask, &raw mut window) } == 0;
+        let is_known = unsafe { ioctl(*file, ask, &raw mut window) } == 0;
         (is_known && window[1] > 0).then_some(window[1].into())
     })
 }

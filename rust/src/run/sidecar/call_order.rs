@@ -73,7 +73,7 @@ fn push_replay(out: &mut String, left: &LeftReplay) {
 fn push_race(out: &mut String, race: &RaceFound) {
     out.push_str("{\"text\": ");
     push_string(out, &race.text);
-    for (key, step) in [("first", &race.first), ("then", &race.then)] {
+    for (key, step) in &[("first", &race.first), ("then", &race.then)] {
         let _ = write!(out, ", \"{key}\": {{\"text\": ");
         push_string(out, &step.text);
         out.push_str(", \"stamp\": ");

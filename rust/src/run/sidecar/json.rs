@@ -126,7 +126,7 @@ pub fn read(text: &str) -> Result<Json, String> {
 /// Returns what is wrong with the document, or what `member` returns.
 pub(super) fn read_members<'a>(
     text: &'a str,
-    member: impl FnMut(&mut JsonReader<'a>, String) -> Result<(), String>,
+    member: &mut dyn FnMut(&mut JsonReader<'a>, String) -> Result<(), String>,
 ) -> Result<(), String> {
     let mut reader = JsonReader {
         rest: text,
@@ -206,7 +206,7 @@ impl JsonReader<'_> {
 
     fn object(&mut self, depth: usize) -> Result<Json, String> {
         let mut members = vec![];
-        self.members(|reader, key| {
+        self.members(&mut |reader, key| {
             members.push((key, reader.value(depth + 1)?));
             Ok(())
         })?;
@@ -216,7 +216,7 @@ impl JsonReader<'_> {
     /// Reads an object. Each of its members is read by `member`, which is given the key.
     pub(super) fn members(
         &mut self,
-        mut member: impl FnMut(&mut Self, String) -> Result<(), String>,
+        member: &mut dyn FnMut(&mut Self, String) -> Result<(), String>,
     ) -> Result<(), String> {
         self.expect('{')?;
         if self.reads('}') {
@@ -263,7 +263,7 @@ impl JsonReader<'_> {
     pub(super) fn pass(&mut self, depth: usize) -> Result<(), String> {
         self.skip_spaces();
         match self.peek() {
-            Some('{') if depth <= DEEPEST => self.members(|reader, _| reader.pass(depth + 1)),
+            Some('{') if depth <= DEEPEST => self.members(&mut |reader, _| reader.pass(depth + 1)),
             Some('[') if depth <= DEEPEST => self.items(|reader| reader.pass(depth + 1)),
             _ => self.value(depth).map(drop),
         }

@@ -48,7 +48,7 @@ impl Matching {
         push_map(out, "made_by", &self.made_by, push_maker);
         let unnamed: Vec<_> = self.unnamed.iter().listed();
         push_items(out, "unnamed", &unnamed, push_number);
-        for (key, entries) in [("waited", &self.waited), ("cancelled", &self.cancelled)] {
+        for (key, entries) in &[("waited", &self.waited), ("cancelled", &self.cancelled)] {
             push_map(out, key, entries, |out, entries| {
                 push_list(out, entries, push_number)
             });

@@ -34,7 +34,7 @@ impl Sidecar {
     /// the most of a long run's names. As values of JSON they would take several times their bytes.
     fn by_members(text: &str) -> Result<Sidecar, String> {
         let mut names = Sidecar::default();
-        json::read_members(text, |reader, key| match key.as_str() {
+        json::read_members(text, &mut |reader, key| match key.as_str() {
             "values" => numbered(reader, |reader| numbered(reader, next_text))
                 .map(|values| names.values = values),
             "calls" => numbered(reader, next_indexes).map(|calls| names.calls = calls),
@@ -149,10 +149,10 @@ pub(super) fn number<N: TryFrom<u64>>(value: Json) -> Result<N, String> {
         .ok_or_else(|| "no number, or one that is too great".to_string())
 }
 
-pub(super) fn list<T>(
-    value: Json,
-    item: impl Fn(Json) -> Result<T, String>,
-) -> Result<Vec<T>, String> {
+/// How an item is read.
+pub(super) type ReadItem<T> = fn(Json) -> Result<T, String>;
+
+pub(super) fn list<T>(value: Json, item: ReadItem<T>) -> Result<Vec<T>, String> {
     let Json::List(values) = value else {
         return Err("no list".to_string());
     };
@@ -164,10 +164,7 @@ pub(super) fn list<T>(
 }
 
 /// Reads an object whose keys are numbers.
-pub(super) fn by_number<T>(
-    value: Json,
-    item: impl Fn(Json) -> Result<T, String>,
-) -> Result<NumberMap<u64, T>, String> {
+pub(super) fn by_number<T>(value: Json, item: ReadItem<T>) -> Result<NumberMap<u64, T>, String> {
     let mut items = NumberMap::new();
     for (key, value) in object(value)? {
         items.insert(number_of(&key)?, item(value)?);
@@ -185,7 +182,7 @@ fn numbered<T>(
     item: impl Fn(&mut JsonReader<'_>) -> Result<T, String>,
 ) -> Result<NumberMap<u64, T>, String> {
     let mut items = NumberMap::new();
-    reader.members(|reader, key| {
+    reader.members(&mut |reader, key| {
         items.insert(number_of(&key)?, item(reader)?);
         Ok(())
     })?;

@@ -40,7 +40,7 @@ impl SourceLocation {
 impl Sidecar {
     /// Adds the folder that the paths of sources are relative to, and the checksums of those that
     /// can be read below it. The folder is what this returns for these paths.
-    pub(crate) fn add_sources(&mut self, root_of: impl FnOnce(&[&Path]) -> Option<PathBuf>) {
+    pub(crate) fn add_sources(&mut self, root_of: &dyn Fn(&[&Path]) -> Option<PathBuf>) {
         let mut files = TextSet::new();
         files.extend(self.locations.iter().map(|at| &at.file));
         let paths: Vec<_> = files.iter().map(Path::new).listed();
@@ -103,7 +103,7 @@ mod tests {
             ],
             ..Sidecar::default()
         };
-        names.add_sources(|_| {
+        names.add_sources(&|_| {
             let mut above = Path::new(env!("CARGO_MANIFEST_DIR")).ancestors();
             let root = above.find(|folder| folder.join(this).is_file());
             root.map(Path::to_path_buf)

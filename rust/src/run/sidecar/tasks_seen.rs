@@ -163,8 +163,8 @@ impl TasksSeen {
             let within: Vec<_> = (0..count).map(is_within).listed();
             let stays = |index: usize| within[index] || index + 2 >= count || within[index + 1];
             let stays: Vec<_> = (0..count).map(stays).listed();
-            let mut stays = stays.into_iter();
-            task.polls.keep(|_| stays.next() == Some(true));
+            let mut stays = stays.iter();
+            task.polls.keep(|_| stays.next() == Some(&true));
         }
     }
 

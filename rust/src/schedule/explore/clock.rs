@@ -177,15 +177,16 @@ impl TestClock {
         let mut due: Vec<&mut SetTimer> = self.timers.iter_mut().listed();
         due.keep(|timer| timer.due <= now && timer.waker.is_some());
         sort_by_key(&mut due, |timer| (timer.due, timer.number));
-        due.into_iter()
+        due.iter_mut()
             .filter_map(|timer| timer.waker.take())
             .listed()
     }
 
     /// Takes the wakers of all timers, which end by another clock from now on.
     pub(super) fn leave(&mut self) -> Vec<Waker> {
-        let timers = mem::take(&mut self.timers);
-        timers.into_iter().filter_map(|timer| timer.waker).listed()
+        let mut timers = mem::take(&mut self.timers);
+        let timers = timers.iter_mut();
+        timers.filter_map(|timer| timer.waker.take()).listed()
     }
 }
 

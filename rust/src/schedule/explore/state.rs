@@ -215,7 +215,7 @@ impl ExplorerState {
             }
         };
         let still = Duration::ZERO;
-        let sleepers = self.threads.sleepers(still, asked);
+        let sleepers = self.threads.sleepers(still, &asked);
         sleepers.is_some_and(|sleepers| !sleepers.is_empty())
     }
 
@@ -269,7 +269,7 @@ impl ExplorerState {
         }
         asked.insert(this, Asked::Nothing);
         let still = self.moved_at.elapsed();
-        self.threads.sleepers(still, |thread| {
+        self.threads.sleepers(still, &|thread| {
             asked.get(&thread).copied().unwrap_or(Asked::Sleeps)
         })
     }
@@ -362,7 +362,7 @@ impl ExplorerState {
         if is_any_busy {
             standing.keep(|stand| !is_idle(stand));
         }
-        let mut all: Vec<Candidate> = standing.into_iter().map(Stand::candidate).listed();
+        let mut all: Vec<Candidate> = standing.iter().map(|stand| stand.candidate()).listed();
         sort_by(&mut all, |a, b| (&a.who, a.number).cmp(&(&b.who, b.number)));
         let is_time_near = self.is_time_near(rest);
         let first = if is_any_busy {

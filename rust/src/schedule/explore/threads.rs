@@ -116,7 +116,7 @@ impl Threads {
     pub(crate) fn sleepers(
         &mut self,
         still: Duration,
-        asked: impl Fn(ThreadId) -> Asked,
+        asked: &dyn Fn(ThreadId) -> Asked,
     ) -> Option<Vec<Sleeper>> {
         if !self.is_told {
             return (still >= STILL).then(Vec::new);
@@ -357,7 +357,7 @@ mod tests {
                     Asked::Nothing
                 }
             };
-            let sleepers = threads.sleepers(Duration::ZERO, asked);
+            let sleepers = threads.sleepers(Duration::ZERO, &asked);
             if let Some([sleeper]) = sleepers.as_deref() {
                 return *sleeper;
             }

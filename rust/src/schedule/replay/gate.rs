@@ -248,10 +248,10 @@ impl Gate {
         state.is_over = true;
         self.entrance.open();
         state.release_all();
-        let conditions = self.turns_of_lanes.iter().chain(&self.turns_of_actors);
-        for condition in conditions.chain([&self.end]) {
+        for condition in self.turns_of_lanes.iter().chain(&self.turns_of_actors) {
             condition.notify_all();
         }
+        self.end.notify_all();
         self.entrance.helper.notify_one();
     }
 

@@ -65,9 +65,10 @@ pub(super) struct Plan {
 impl Plan {
     /// Returns the plan of a run with these names.
     pub(super) fn new(run: &Run, names: Sidecar) -> Plan {
-        let classes = std::array::from_fn(|actor| class_of(actor, &names));
+        let mut classes = [Class::Unnamed; Actor::MOST];
         let mut numbers = TextMap::new();
-        for (actor, class) in (0..).zip(&classes) {
+        for (actor, class) in (0..).zip(&mut classes) {
+            *class = class_of(actor as usize, &names);
             let name = names.actors.get(&u64::from(actor));
             if let Some(name) = name.filter(|_| *class != Class::Unnamed) {
                 numbers.insert(name, actor);

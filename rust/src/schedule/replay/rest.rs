@@ -47,7 +47,7 @@ impl RestWatch {
             return None;
         }
         let this = this_thread();
-        let sleepers = self.threads.sleepers(Duration::ZERO, |thread| {
+        let sleepers = self.threads.sleepers(Duration::ZERO, &|thread| {
             if thread == this || Some(thread) == self.harness {
                 Asked::Nothing
             } else {

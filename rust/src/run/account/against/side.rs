@@ -287,7 +287,7 @@ impl SideChannel {
         keys: &mut Keys,
     ) -> SideChannel {
         let text = channel_text(names, spec, number.into(), both);
-        let first = (0..).zip([HandleKind::Sender, HandleKind::Receiver]);
+        let first = (0..).zip(&[HandleKind::Sender, HandleKind::Receiver]);
         SideChannel {
             key: keys.of(text),
             sends: vec![],
@@ -295,7 +295,7 @@ impl SideChannel {
             senders: 1,
             handles: first
                 .map(|(handle, kind)| SideHandle {
-                    kind,
+                    kind: *kind,
                     key: keys.of(handle_text(names, number, handle)),
                 })
                 .listed(),

@@ -72,10 +72,10 @@ fn rows(here: &Side<'_>, there: &Side<'_>, first: &Differing, about: Option<&Abo
         }
     }
     let mut rows = vec![];
-    for ((word, side), mut places) in [("here", here), ("there", there)].into_iter().zip(places) {
-        sort_by_key(&mut places, |place| *place);
+    for (places, (word, side)) in places.iter_mut().zip(&[("here", here), ("there", there)]) {
+        sort_by_key(places, |place| *place);
         places.dedup();
-        rows.push_all(places.into_iter().map(|place| cells(word, side, place)));
+        rows.push_all(places.iter().map(|place| cells(word, side, *place)));
     }
     rows
 }

@@ -37,7 +37,7 @@ pub(in crate::run::account) fn all(context: &Context<'_>) -> Vec<PendingTask> {
     });
     let mut last: Vec<_> = last.listed();
     sort_by_key(&mut last, |(_, stretch)| stretch.times.0);
-    let pending = last.into_iter().map(|(task, stretch)| {
+    let pending = last.iter().map(|(task, stretch)| {
         let poll = &task.polls[stretch.index];
         let name = texts.name(task);
         let places = texts.in_places(waited_at(seen, task, stretch.index));

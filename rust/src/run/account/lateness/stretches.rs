@@ -89,8 +89,9 @@ pub(super) fn within(task: &SeenTask, window: (u64, u64), now: u64) -> Vec<Stret
         if task.polls[index].before >= window.1 {
             break;
         }
-        let all = from_poll(task, index, now).into_iter();
-        stretches.push_all(all.filter(|stretch| stretch.is_within(window)));
+        let all = from_poll(task, index, now);
+        let all = all.iter().filter(|stretch| stretch.is_within(window));
+        stretches.push_all(all.copied());
     }
     stretches
 }
@@ -98,7 +99,8 @@ pub(super) fn within(task: &SeenTask, window: (u64, u64), now: u64) -> Vec<Stret
 /// Returns the stretch in which the call with this stamp would be made.
 pub(super) fn at(task: &SeenTask, stamp: u64, now: u64) -> Option<Stretch> {
     let next = task.polls.partition_point(|poll| poll.before < stamp);
-    let mut stretches = from_poll(task, next.checked_sub(1)?, now).into_iter();
+    let stretches = from_poll(task, next.checked_sub(1)?, now);
+    let mut stretches = stretches.iter().copied();
     stretches.rfind(|it| it.from < stamp && stamp <= it.to)
 }
 

@@ -99,10 +99,10 @@ impl ChannelCauses {
 /// Returns the places at which none of these handles of a channel was alive any more.
 fn none_left(history: &ChannelHistory, are_meant: fn(&HandleHistory) -> bool) -> Vec<u64> {
     let (mut alive, mut places) = (0, vec![]);
-    for (place, change) in changes(history, are_meant) {
+    for (place, change) in &changes(history, are_meant) {
         alive += change;
         if alive == 0 {
-            places.push(place);
+            places.push(*place);
         }
     }
     places

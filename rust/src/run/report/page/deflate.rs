@@ -92,9 +92,9 @@ fn push_codes(out: &mut Bits, literals: &Codes, distances: &Codes) {
     for symbol in ORDER {
         out.push(codes.lengths()[symbol].into(), 3);
     }
-    for (symbol, zeros) in symbols {
-        codes.push(out, symbol);
-        if symbol == ZEROS {
+    for (symbol, zeros) in &symbols {
+        codes.push(out, *symbol);
+        if *symbol == ZEROS {
             out.push((zeros - LEAST_ZEROS) as u64, ZEROS_BITS);
         }
     }
@@ -111,7 +111,7 @@ fn runs_of(lengths: &[u8]) -> Vec<(usize, usize)> {
             symbols.push((ZEROS, zeros));
             left -= zeros;
         }
-        symbols.push_all(vec![(run[0].into(), 1); left]);
+        symbols.resize(symbols.len() + left, (run[0].into(), 1));
     }
     symbols
 }

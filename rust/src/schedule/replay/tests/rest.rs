@@ -131,7 +131,7 @@ fn a_thread_that_begins_as_another_ends_is_seen() {
             Asked::Sleeps
         }
     };
-    while threads.sleepers(Duration::ZERO, asked).is_none() {
+    while threads.sleepers(Duration::ZERO, &asked).is_none() {
         thread::yield_now();
     }
     drop(go);
@@ -144,7 +144,7 @@ fn a_thread_that_begins_as_another_ends_is_seen() {
     let of_thread = is_over.clone();
     start(move || while !of_thread.load(Ordering::Relaxed) {});
     for _ in 0..1000 {
-        assert_eq!(threads.sleepers(Duration::ZERO, asked), None);
+        assert_eq!(threads.sleepers(Duration::ZERO, &asked), None);
     }
     is_over.store(true, Ordering::Relaxed);
 }
