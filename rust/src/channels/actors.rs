@@ -12,6 +12,8 @@ mod named;
 mod origin;
 mod own;
 mod spawned;
+#[cfg(test)]
+mod tests;
 
 use crate::run::listed::IntoList;
 pub use caller::set_task_id;
@@ -169,23 +171,23 @@ impl Actors {
     pub(crate) fn unused(&mut self) -> Vec<Unused> {
         let numbers = self.holders.iter_mut().enumerate();
         let unused = numbers.filter_map(|(number, holders)| {
-            let finds = holders.finds;
-            holders.are_gone().then_some(Unused { number, finds })
+            let changes = holders.changes;
+            holders.are_gone().then_some(Unused { number, changes })
         });
         unused.listed()
     }
 
-    /// Gives those numbers away that nobody has got since, and that aren't among these, the bits of
-    /// which are the numbers that calls have.
+    /// Gives those numbers away that nobody has got or given away since, and that aren't among
+    /// these, the bits of which are the numbers that calls have.
     pub(crate) fn give_away(&mut self, unused: Vec<Unused>, stored: u64) {
-        for Unused { number, finds } in unused {
+        for Unused { number, changes } in unused {
             let is_stored = stored & (1 << number) != 0;
-            if !is_stored && self.holders[number].finds == finds {
+            if !is_stored && self.holders[number].changes == changes {
                 self.numbers.remove(&self.names[number]);
                 self.unnamed.remove(&(number as u64));
                 self.spawned.remove(&(number as u64));
                 self.given_away.push_back(number);
-                self.holders[number] = Holders::given_away();
+                self.holders[number].give_away();
             }
         }
     }

@@ -54,17 +54,18 @@ impl Holder {
     }
 }
 
-/// A number whose holders are gone, with how often it was got until then.
+/// A number whose holders are gone, with how often it had changed hands until then.
 pub(crate) struct Unused {
     pub(super) number: usize,
-    pub(super) finds: u64,
+    pub(super) changes: u64,
 }
 
 /// Those who have a number. Several futures may have one name, and so one number.
 #[derive(Default)]
 pub(super) struct Holders {
-    /// How often the number was got.
-    pub(super) finds: u64,
+    /// How often the number was got or given away. It never falls, so who has looked before another
+    /// gave the number away, and somebody got it, sees that.
+    pub(super) changes: u64,
     all: Vec<Holder>,
     // When there are as many, those that are gone or here twice are removed.
     full_at: usize,
@@ -72,12 +73,13 @@ pub(super) struct Holders {
 }
 
 impl Holders {
-    /// Nobody, of a number that is to be given to somebody else.
-    pub(super) fn given_away() -> Holders {
-        Holders {
+    /// Says that nobody has the number any more, and that it is to be given to somebody else.
+    pub(super) fn give_away(&mut self) {
+        *self = Holders {
+            changes: self.changes + 1,
             is_given_away: true,
             ..Holders::default()
-        }
+        };
     }
 
     /// Says that the number is somebody's again.
@@ -92,7 +94,7 @@ impl Holders {
 
     /// Adds one who has got the number.
     pub(super) fn add(&mut self, holder: Holder) {
-        self.finds += 1;
+        self.changes += 1;
         if self.all.len() >= self.full_at {
             let mut seen = NumberSet::new();
             self.all
@@ -105,6 +107,6 @@ impl Holders {
     /// Whether all of them are gone, and the number isn't given away.
     pub(super) fn are_gone(&mut self) -> bool {
         self.all.retain(Holder::is_alive);
-        !self.is_given_away && self.finds > 0 && self.all.is_empty()
+        !self.is_given_away && self.changes > 0 && self.all.is_empty()
     }
 }
