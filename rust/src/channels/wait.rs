@@ -107,8 +107,15 @@ pub(crate) struct DroppedWait {
     pub(crate) wait: Wait,
     /// The recorder's clock when it was dropped.
     pub(crate) until: u64,
+    /// The time when it was dropped, where there is a clock.
+    pub(crate) ended: Option<Instant>,
+}
+
+impl DroppedWait {
     /// How long it waited, where there is a clock.
-    pub(crate) waited: Option<Duration>,
+    pub(crate) fn waited(&self) -> Option<Duration> {
+        Some(self.ended?.duration_since(self.wait.began?))
+    }
 }
 
 /// The state of a call that waits between its polls.

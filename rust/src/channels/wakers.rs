@@ -63,6 +63,7 @@ fn wake_each(wakers: BTreeMap<WaitTicket, Option<Waker>>) {
 pub(crate) struct WakeAtEnd(pub(crate) Wakers);
 
 impl Drop for WakeAtEnd {
+    #[inline]
     fn drop(&mut self) {
         mem::take(&mut self.0).wake();
     }

@@ -532,7 +532,7 @@ fn add_channel(names: &mut Sidecar, indexes: &mut Indexes, number: u64, channel:
     names.waiting.push_all(waits);
     let dropped = seldom.dropped_waits.iter().map(|dropped| WaitingCall {
         until: Some(dropped.until),
-        waited: dropped.waited.map(|waited| waited.as_micros() as u64),
+        waited: dropped.waited().map(|waited| waited.as_micros() as u64),
         ..indexes.begun(&dropped.wait, number, nth(&dropped.wait))
     });
     names.dropped_waits.push_all(dropped);

@@ -501,7 +501,9 @@ impl<T> Drop for Receiver<T> {
         drop(channel);
         // Whoever waits for this finds the values dropped, and is woken also if such a drop panics.
         let wakers = WakeAtEnd(wakers);
-        drop(unwanted);
+        if let Some(unwanted) = unwanted {
+            drop(unwanted);
+        }
         drop(wakers);
     }
 }

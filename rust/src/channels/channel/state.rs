@@ -17,7 +17,7 @@ use crate::channels::wait::{DroppedWait, Look, Pending, Wait, WaitFor};
 use crate::channels::whereabouts::renews;
 use crate::core::large_pages::without_giving_back;
 use crate::core::source::rw_law::NoMemory;
-use crate::run::clock::Times;
+use crate::run::clock::{Times, now};
 use crate::run::listed::IntoList;
 use crate::run::numbered::NumberMap;
 use crate::run::sidecar::Maker;
@@ -134,6 +134,7 @@ impl ChannelState {
     }
 
     /// Removes what was stored for a call that then wasn't recorded. Returns where it was made.
+    #[inline]
     pub(super) fn remove_location(&mut self) -> CallSite {
         if self.keeps_all {
             return self.locations.of_calls.pop();
@@ -447,7 +448,7 @@ impl ChannelState {
             dropped.push_back(DroppedWait {
                 wait,
                 until,
-                waited: wait.began.filter(|_| !is_held).map(|it| it.elapsed()),
+                ended: if is_held { None } else { now() },
             });
         }
     }
