@@ -53,22 +53,24 @@ fn taken() -> f64 {
     (ticks(11) + ticks(12)) * 1e7
 }
 
-/// The least of several times of processors, for each value that is sent.
+/// The times of processors for each value that is sent, of several runs in turn. They are added up,
+/// since one run takes few hundredths of a second.
 pub fn print_threads(sides: &[Side], count: u64, repeats: u32) {
     for (case, senders, receivers) in CASES {
-        let mut least = vec![f64::INFINITY; sides.len()];
+        let mut sums = vec![0.0; sides.len()];
         for _ in 0..repeats {
-            for (least, side) in least.iter_mut().zip(sides) {
+            for (sum, side) in sums.iter_mut().zip(sides) {
                 let before = taken();
                 side.run(
                     || of_tokio(senders, receivers, count),
                     || of_crate(senders, receivers, count),
                 );
-                *least = least.min((taken() - before) / count as f64);
+                *sum += taken() - before;
             }
         }
-        for (side, least) in sides.iter().zip(least) {
-            println!("{case} {} {least:.0}", side.name());
+        for (side, sum) in sides.iter().zip(sums) {
+            let sent = count * u64::from(repeats);
+            println!("{case} {} {:.0}", side.name(), sum / sent as f64);
         }
     }
 }
