@@ -16,7 +16,7 @@ const NAME: &str = "no_price_is_missing";
 const TEST: &str = "the_program_prints_what_the_guide_has_of_it";
 
 /// How often the program may be run until its auditor is as late as in the guide. It sleeps, but
-/// another thread may be even slower.
+/// another thread may be even slower, and then it may miss nothing.
 const TRIES: usize = 100;
 
 #[rustfmt::skip]
@@ -78,11 +78,10 @@ fn said_in_the_guide(folder: &Path) -> String {
     relocated(&told, ("tests/bus.rs", 6), ("tests/guide.rs", here))
 }
 
-/// Runs the program, and returns the lines of its failure on standard error.
-fn said(folder: &Path) -> String {
+/// Runs the program, and returns the lines of its failure on standard error, if it fails.
+fn said(folder: &Path) -> Option<String> {
     let (succeeds, said) = play(TEST, folder, None);
-    assert!(!succeeds, "{said}");
-    lines_of_failure(&said)
+    (!succeeds).then(|| lines_of_failure(&said))
 }
 
 #[test]
@@ -100,12 +99,14 @@ fn the_program_prints_what_the_guide_has_of_it() {
     if is_part() {
         return program();
     }
-    let folder = Folder::new("guide");
-    let wanted = said_in_the_guide(&folder.0);
-    let found = (0..TRIES)
-        .map(|_| said(&folder.0))
-        .find(|said| *said == wanted);
-    assert!(found.is_some(), "never said: {wanted}");
+    // Each try has a new folder, since a report also tells of runs before.
+    let mut folders = (0..TRIES).map(|_| Folder::new("guide"));
+    let mut last = None;
+    let found = folders.find(|folder| {
+        last = said(&folder.0);
+        last == Some(said_in_the_guide(&folder.0))
+    });
+    let folder = found.unwrap_or_else(|| panic!("said at last: {last:?}"));
     let walk = between(START_PAGE, "```text\n$ printf '", "```");
     let (commands, written) = walk.split_once('\n').unwrap();
     let commands = commands.split_once('\'').unwrap().0.replace("\\n", "\n");
