@@ -186,7 +186,7 @@ impl<T, S> ChannelHandle<T, S> {
     /// the compiler, so it has no location in the source.
     pub(crate) fn drop_by(&self, call: Call) {
         let mut channel = self.lock(Operation::Drop, None);
-        let (wakers, _event) = channel.drop_handle(self.kind(), self.slot, call);
+        let (mut wakers, _event) = channel.drop_handle(self.kind(), self.slot, call);
         channel.unlock();
         wakers.wake();
     }

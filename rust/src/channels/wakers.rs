@@ -3,7 +3,6 @@
 
 use crate::channels::wait::WaitTicket;
 use crate::core::shim::collections::BTreeMap;
-use std::mem;
 use std::panic::{self, AssertUnwindSafe};
 use std::task::Waker;
 use std::thread;
@@ -37,10 +36,11 @@ impl Wakers {
         Wakers { gone, ..self }
     }
 
+    // None is moved: a copy in wide registers right after it was written waits for the writes.
     #[inline]
-    pub(crate) fn wake(self) {
-        drop(self.gone);
-        if let Some(woken) = self.woken {
+    pub(crate) fn wake(&mut self) {
+        drop(self.gone.take());
+        if let Some(woken) = self.woken.take() {
             wake_each(woken);
         }
     }
@@ -65,6 +65,6 @@ pub(crate) struct WakeAtEnd(pub(crate) Wakers);
 impl Drop for WakeAtEnd {
     #[inline]
     fn drop(&mut self) {
-        mem::take(&mut self.0).wake();
+        self.0.wake();
     }
 }

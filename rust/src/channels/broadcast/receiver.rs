@@ -496,15 +496,16 @@ impl<T> Drop for Receiver<T> {
             0
         };
         let slot = self.handle.slot;
-        let (wakers, _) = channel.drop_handle(Kind::Receiver, slot, CoreChannel::broadcast_drop);
+        let (mut wakers, _) =
+            channel.drop_handle(Kind::Receiver, slot, CoreChannel::broadcast_drop);
         let unwanted = values.borrow_mut(&mut channel.state).drop_receiver(unread);
         drop(channel);
+        let Some(unwanted) = unwanted else {
+            return wakers.wake();
+        };
         // Whoever waits for this finds the values dropped, and is woken also if such a drop panics.
-        let wakers = WakeAtEnd(wakers);
-        if let Some(unwanted) = unwanted {
-            drop(unwanted);
-        }
-        drop(wakers);
+        let _wakers = WakeAtEnd(wakers);
+        drop(unwanted);
     }
 }
 

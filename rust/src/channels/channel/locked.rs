@@ -321,6 +321,7 @@ impl<'a> LockedChannel<'a> {
 
     /// Lists a call of the handle, which is of this kind, among those that wait since this time of
     /// the clock.
+    #[inline]
     pub(crate) fn list_wait(
         &mut self,
         (kind, slot): (Kind, Slot),
@@ -397,7 +398,8 @@ impl<'a> LockedChannel<'a> {
 
     /// Ends what the channel has of its receiver in this slot, which is dropped, given the reply of
     /// that call. The drop of one of several tells nobody.
-    #[inline]
+    #[cfg_attr(debug_assertions, inline)]
+    #[cfg_attr(not(debug_assertions), inline(always))]
     fn drop_receiver(&mut self, slot: Slot, reply: Reply) -> Wakers {
         let left = self.core().receivers();
         let state = &mut *self.state;
@@ -465,7 +467,7 @@ fn unlock_and_forget(mut state: ChannelGuard<'_, ChannelState>, slot: Slot) {
 #[cold]
 #[inline(never)]
 fn unlock_and_wake_each(mut state: ChannelGuard<'_, ChannelState>, reply: Reply) {
-    let wakers = state.remove_wakers_now(Kind::Sender, reply);
+    let mut wakers = state.remove_wakers_now(Kind::Sender, reply);
     drop(state);
     wakers.wake();
 }

@@ -111,22 +111,21 @@ impl Receivers {
     /// Adds a receiver with this number that is made here, and returns its slot.
     #[inline]
     pub(super) fn add(&mut self, number: u32, made_at: CallSite) -> Slot {
-        let receiver = LiveReceiver::new(number, made_at);
         let slot = self.free;
         match self.slot_mut(slot) {
             Some(free) => {
                 let next = Slot(free.lost as u32);
-                *free = receiver;
+                *free = LiveReceiver::new(number, made_at);
                 self.free = next;
                 slot
             }
-            None => self.add_slot(receiver),
+            None => self.add_slot(number, made_at),
         }
     }
 
     #[cold]
-    fn add_slot(&mut self, receiver: LiveReceiver) -> Slot {
-        self.others.push(Apart(receiver));
+    fn add_slot(&mut self, number: u32, made_at: CallSite) -> Slot {
+        self.others.push(Apart(LiveReceiver::new(number, made_at)));
         Slot(self.others.len() as u32)
     }
 

@@ -104,15 +104,12 @@ impl ListedCalls {
                 *free = call;
                 ListedCall { number, place }
             }
-            None => self.add_place(call),
+            None => {
+                let place = WaitPlace(self.places.len() as u32);
+                self.places.push(call);
+                ListedCall { number, place }
+            }
         }
-    }
-
-    #[cold]
-    fn add_place(&mut self, call: ListedWait) -> ListedCall {
-        let (number, place) = (call.number, WaitPlace(self.places.len() as u32));
-        self.places.push(call);
-        ListedCall { number, place }
     }
 
     #[inline]
