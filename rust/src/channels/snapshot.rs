@@ -239,22 +239,25 @@ impl ChannelSnapshot {
 
     /// Returns what is on a channel with this state, at this time of its recorder's clock.
     fn new(state: &mut ChannelState, clock: Option<u64>) -> ChannelSnapshot {
-        let mut receivers: Vec<_> = state.receivers.iter().map(ReceiverSnapshot::new).listed();
+        let mut live: Vec<LiveReceiver> = state.receivers.iter().copied().listed();
         // Not by the number, which may have been that of another one before.
-        sort_by_key(&mut receivers, |(number, _)| state.core.nth(*number));
+        sort_by_key(&mut live, |receiver| state.core.nth(receiver.number));
         let retained = state.core.capacity().map_or(1, |_| state.core.queued());
-        let mut receivers: Vec<_> = receivers
+        let mut receivers = Vec::with_capacity(live.len());
+        let seen = live
             .into_iter()
-            .map(|(number, receiver)| receiver.in_channel(number, state))
-            .listed();
+            .map(|receiver| (receiver.number, ReceiverSnapshot::new(receiver, state)));
+        receivers.push_all(seen);
         ReceiverSnapshot::add_waits(&mut receivers, state);
         let mut sent_last = NumberedCall::new(state.sent_stamp());
-        if let Some(clock) = clock {
+        if let (Some(clock), true) = (clock, state.knows_times()) {
             let received = receivers.iter_mut();
             let mut calls = received.filter_map(|(_, it)| it.received.as_mut()).listed();
             calls.push_all(&mut sent_last);
             NumberedCall::add_times(calls, state, clock);
         }
+        let mut described = Vec::with_capacity(receivers.len());
+        described.push_all(receivers.into_iter().map(|(_, receiver)| receiver));
         ChannelSnapshot {
             name: state.name_or_place(),
             made_at: state.made_at,
@@ -266,7 +269,7 @@ impl ChannelSnapshot {
             sender: state.last_send.name().map(str::to_string),
             sent_at: state.last_send.called_at(),
             sent_last,
-            receivers: receivers.into_iter().map(|(_, receiver)| receiver).listed(),
+            receivers: described,
         }
     }
 
@@ -359,32 +362,23 @@ impl ChannelSnapshot {
 }
 
 impl ReceiverSnapshot {
-    /// Returns what is noted of a receiver, with its number.
-    fn new(receiver: &LiveReceiver) -> (u32, ReceiverSnapshot) {
-        let snapshot = ReceiverSnapshot {
-            name: String::new(),
+    /// Returns what is noted of a receiver, and what its channel knows of it. Its calls that wait
+    /// are added later.
+    fn new(receiver: LiveReceiver, state: &mut ChannelState) -> ReceiverSnapshot {
+        let unread = state.unread(receiver.number);
+        let capacity = state.core.capacity();
+        let retained = capacity.map(|capacity| capacity.next_power_of_two() as u64);
+        ReceiverSnapshot {
+            name: state.handle_name(Kind::Receiver, receiver.number),
             made_at: receiver.made_at,
-            unread: 0,
-            lag: 0,
+            unread,
+            lag: retained.map_or(0, |retained| unread.saturating_sub(retained)),
             lost: receiver.lost,
             received_at: receiver.received_at,
             received: NumberedCall::new(receiver.received_stamp),
             waits: None,
             woken: None,
-        };
-        (receiver.number, snapshot)
-    }
-
-    /// Adds what the channel knows of the receiver with this number.
-    fn in_channel(mut self, number: u32, state: &mut ChannelState) -> (u32, ReceiverSnapshot) {
-        self.name = state.handle_name(Kind::Receiver, number);
-        self.unread = state.unread(number);
-        let retained = state
-            .core
-            .capacity()
-            .map(|capacity| capacity.next_power_of_two() as u64);
-        self.lag = retained.map_or(0, |retained| self.unread.saturating_sub(retained));
-        (number, self)
+        }
     }
 
     /// Adds the calls that wait to their receivers, which are in the order of their creation, and

@@ -17,8 +17,12 @@ pub(crate) fn sort_by_key<T, K: Ord>(items: &mut [T], key: impl Fn(&T) -> K) {
     move_to_places(places, &mut |one, other| items.swap(one, other));
 }
 
-/// Returns the places of `count` items, in the order of these.
+/// Returns the places of `count` items, in the order of these, or no places if the items already
+/// are in it.
 fn sorted_places(count: usize, order: &dyn Fn(usize, usize) -> Ordering) -> Vec<usize> {
+    if (1..count).all(|place| order(place - 1, place).is_le()) {
+        return Vec::new();
+    }
     let mut places: Vec<_> = (0..count).listed();
     places.sort_by(|one, other| order(*one, *other));
     places

@@ -11,6 +11,11 @@ impl ChannelState {
         if self.is_recorded { self.sent_stamp } else { 0 }
     }
 
+    /// Whether it may be known when a call was made: the last calls are kept.
+    pub(crate) fn knows_times(&self) -> bool {
+        self.last_calls.is_some()
+    }
+
     /// Returns when the calls with these stamps were made, in milliseconds since 1970, where the
     /// last calls are kept and there are times around them. The recorder's clock is `clock` now.
     ///

@@ -32,6 +32,7 @@ impl Slot {
 }
 
 /// What is known of a receiver, besides what the core knows.
+#[derive(Clone, Copy)]
 pub(crate) struct LiveReceiver {
     /// Its number as a handle. A slot without a receiver has `NO_NUMBER`, and in `lost` the next
     /// such slot, or `NO_SLOT`.

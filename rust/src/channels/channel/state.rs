@@ -22,6 +22,7 @@ use crate::run::listed::IntoList;
 use crate::run::numbered::NumberMap;
 use crate::run::sidecar::Maker;
 use std::alloc::{Layout, handle_alloc_error};
+use std::fmt::Write;
 use std::mem;
 use std::task::Waker;
 
@@ -184,12 +185,15 @@ impl ChannelState {
         if let Some(name) = self.seldom().handle_names.get(&number.into()) {
             return name.clone();
         }
-        let nth = self.core.nth(number);
-        match kind {
-            Kind::Sender => format!("sender {nth}"),
-            Kind::WeakSender => format!("weak sender {nth}"),
-            Kind::Receiver => format!("receiver {nth}"),
-        }
+        let kind = match kind {
+            Kind::Sender => "sender ",
+            Kind::WeakSender => "weak sender ",
+            Kind::Receiver => "receiver ",
+        };
+        let mut name = String::with_capacity(16);
+        name.push_str(kind);
+        let _ = write!(name, "{}", self.core.nth(number));
+        name
     }
 
     /// Returns the names of those handles that the journal names.
@@ -205,7 +209,7 @@ impl ChannelState {
     pub(crate) fn name_or_place(&self) -> String {
         match (&self.seldom().name, self.made_at) {
             (Some(name), _) => name.clone(),
-            (None, Some(at)) => format!("channel at {}:{}", at.file(), at.line()),
+            (None, Some(at)) => ["channel at ", at.file(), ":", &at.line().to_string()].concat(),
             (None, None) => "channel".to_string(),
         }
     }
