@@ -75,7 +75,6 @@ use crate::channels::backend::{OpenFault, Spec};
 use crate::channels::channel::{ChannelState, RecordedChannel, TypedChannel, call_site};
 use crate::channels::guarded_by::GuardedBy;
 use crate::channels::handle::ChannelHandle;
-use crate::channels::lock::lock;
 use std::mem::MaybeUninit;
 use values::Values;
 
@@ -127,7 +126,7 @@ fn open<T>(capacity: usize) -> (Sender<T>, Receiver<T>) {
         Err(OpenFault::NoMemory) => panic!("yovanelum: no memory for a channel"),
         Err(fault) => unreachable!("the capacity is 1 to 65536: {fault}"),
     };
-    let values = GuardedBy::new(&*lock(&recorded.state), Values::new(capacity));
+    let values = GuardedBy::new(recorded.state.address(), Values::new(capacity));
     let channel = TypedChannel::shared(recorded, values, MaybeUninit::write);
     let (sender, receiver) = ChannelHandle::first_two(channel);
     (Sender { handle: sender }, Receiver { handle: receiver })

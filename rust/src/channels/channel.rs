@@ -44,7 +44,7 @@ pub(crate) use who_waits::{WaitNow, WaitState};
 
 use crate::channels::backend::{OpenFault, Recording, Spec};
 use crate::channels::channel_lock::ChannelLock;
-use crate::channels::in_place::arc_of;
+use crate::channels::in_place::arc_finished;
 use crate::channels::lock::lock;
 use crate::channels::recorder::{
     RecordedBy, Recorder, Shared, note_channel, say_that_none_replays,
@@ -136,21 +136,22 @@ fn begun(
     let last = recorder.and_then(Shared::calls_per_channel);
     let last = last.map(ChunkSize::new);
     let core = opened(spec, recorder.is_some(), last)?;
-    // It is shared from the beginning, since it is large and would be moved.
-    let made = ChannelState::new(core, value_count, made_at);
-    let mut shared = arc_of(ChannelLock::new(made));
-    let state = Arc::get_mut(&mut shared).map(ChannelLock::get_mut);
-    let state = state.expect("it is shared with nobody");
-    state.receivers.add(1, made_at);
-    let is_recorded = state.is_recorded;
-    if let Some(recorder) = recorder {
-        if let Some(size) = last.filter(|_| is_recorded) {
-            state.fly(size, recorder.times);
+    // It is finished where it stays, since it is large and would be moved.
+    let made = ChannelLock::new(ChannelState::new(core, value_count, made_at));
+    let mut is_recorded = false;
+    let shared = arc_finished(made, |made| {
+        let state = made.get_mut();
+        state.receivers.add(1, made_at);
+        is_recorded = state.is_recorded;
+        if let Some(recorder) = recorder {
+            if let Some(size) = last.filter(|_| is_recorded) {
+                state.fly(size, recorder.times);
+            }
+            state.made_by = Some(recorder.maker());
+            state.store_making(made_at);
+            state.store_making(made_at);
         }
-        state.made_by = Some(recorder.maker());
-        state.store_making(made_at);
-        state.store_making(made_at);
-    }
+    });
     Ok((shared, is_recorded))
 }
 

@@ -48,6 +48,11 @@ impl<T> ChannelLock<T> {
         self.value.get_mut()
     }
 
+    /// Returns the address of the value.
+    pub(crate) fn address(&self) -> *const T {
+        self.value.get()
+    }
+
     /// Acquires the lock, once no other thread holds it.
     #[inline(always)]
     pub(crate) fn lock(&self) -> ChannelGuard<'_, T> {

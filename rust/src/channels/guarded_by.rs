@@ -17,7 +17,8 @@ unsafe impl<K, T: Send> Send for GuardedBy<K, T> {}
 unsafe impl<K, T: Send> Sync for GuardedBy<K, T> {}
 
 impl<K, T> GuardedBy<K, T> {
-    pub(crate) fn new(key: &K, value: T) -> GuardedBy<K, T> {
+    /// Returns a value that is borrowed together with the `K` at this address.
+    pub(crate) fn new(key: *const K, value: T) -> GuardedBy<K, T> {
         const { assert!(size_of::<K>() > 0) };
         GuardedBy {
             key,

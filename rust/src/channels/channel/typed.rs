@@ -3,6 +3,7 @@
 #![allow(unsafe_code)]
 
 use super::RecordedChannel;
+use crate::channels::in_place::place_in;
 use crate::channels::recorder::TextOf;
 use std::mem::MaybeUninit;
 use std::ptr;
@@ -32,12 +33,11 @@ impl<T, S> TypedChannel<T, S> {
         if recorded.recorder.shows_known() {
             let _ = text_of.set(TextOf::known());
         }
-        let mut made = Arc::<TypedChannel<T, S>>::new_uninit();
-        let channel = Arc::get_mut(&mut made)
-            .expect("it is shared with nobody")
-            .as_mut_ptr();
-        // SAFETY: all three parts are written, each into its place, before the whole is said to
-        // be. Who returns a reference to the place of the values has written them.
+        let made = Arc::<TypedChannel<T, S>>::new_uninit();
+        let channel = place_in(&made);
+        // SAFETY: nobody else has the place. All three parts are written, each into its own, before
+        // the whole is said to be. Who returns a reference to the place of the values has written
+        // them.
         unsafe {
             let place = &raw mut (*channel).values;
             let stored = store(&mut *place.cast::<MaybeUninit<S>>(), values);
