@@ -20,8 +20,8 @@ use std::time::Duration;
 /// How many milliseconds are lost at least where a run may have failed by time.
 pub(super) const LEAST_LOST: u32 = 50;
 
-/// How many are lost at least where that is told of a run in which no choice let time pass. So many
-/// are seldom lost where the machine isn't busy, and short timers may have ended in them.
+/// From how many lost milliseconds on a report tells of them, where no choice let time pass. A
+/// machine that isn't busy seldom loses so many, and short timers may have ended in them.
 const LEAST_TOLD: u32 = 10;
 
 /// A failing order, and what brings it back.
