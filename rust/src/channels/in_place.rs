@@ -12,6 +12,7 @@ pub(crate) fn place_in<T>(made: &Arc<MaybeUninit<T>>) -> *mut T {
 }
 
 /// Returns an `Arc` of this value.
+// By `arc_finished` a large value would be on the stack once more, where nothing is inlined.
 pub(crate) fn arc_of<T>(value: T) -> Arc<T> {
     let made = Arc::<T>::new_uninit();
     // SAFETY: nobody else has the place, which is written before it is said to be.

@@ -190,6 +190,7 @@ impl ChannelState {
             Kind::WeakSender => "weak sender ",
             Kind::Receiver => "receiver ",
         };
+        // Each lag and each receiver of a snapshot has such a name, and `format!` takes longer.
         let mut name = String::with_capacity(16);
         name.push_str(kind);
         let _ = write!(name, "{}", self.core.nth(number));
