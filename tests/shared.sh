@@ -179,28 +179,30 @@ test_programs() {
   for program in "$top"/rust/tests/*.rs "$top"/rust/tests/*/main.rs; do basename "${program%/main.rs}" .rs; done
 }
 
-# Makes the folder of the crates that cargo builds the program of, and sets `crates` to cargo's words for it.
+# Makes the folder of the crates that Cargo.lock names, which cargo reads from then on: for the workspace, and for packages over it.
 make_crates() {
-  crates=(--config "$out/crates/config.toml")
-  "$top/rust/ttd/sources" "$out/crates"
+  local file=$out/crates/home/config.toml
+  "$top/rust/sources" "$out/crates" && mkdir -p "${file%/*}" && { cmp -s "$out/crates/config.toml" "$file" || cp "$out/crates/config.toml" "$file"; } &&
+    export CARGO_HOME=${file%/*}
 }
+
+# The same, or ends the script.
+use_crates() { make_crates || { fail "the crates of Cargo.lock can't be had"; finish; }; }
 
 # Has cargo build the program, not optimised, where its package's tests have it too, and sets `built` to its path.
 # shellcheck disable=SC2034 # Callers read it.
 build_program() {
-  local crates
   built=$out/ttd/debug/ttd
   make_crates || fail "the program isn't built"
-  CARGO_TARGET_DIR=$out/ttd step cargo build -q --locked "${crates[@]}" --manifest-path "$top/rust/ttd/Cargo.toml"
+  CARGO_TARGET_DIR=$out/ttd step cargo build -q --locked --manifest-path "$top/rust/ttd/Cargo.toml"
 }
 
 # Has cargo install the program, as users do but for the number of parts in which it is optimised, and sets `installed` to its path.
 # shellcheck disable=SC2034 # Callers read it.
 install_program() {
-  local crates
   installed=$out/program/bin/ttd
   make_crates || fail "the program isn't installed"
-  CARGO_TARGET_DIR=$out/source step cargo install -q --locked "${crates[@]}" --path "$top/rust/ttd" --root "$out/program" --force
+  CARGO_TARGET_DIR=$out/source step cargo install -q --locked --path "$top/rust/ttd" --root "$out/program" --force
 }
 
 # Prints the sum, which is a script's last line, and ends with status 0 if nothing failed. What was left out isn't counted as passed.

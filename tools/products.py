@@ -16,7 +16,7 @@ import index.pages
 import module
 
 # Folders in which nothing stands that isn't built.
-BUILT, SOURCE, INDEX = "rust/built", "rust/src/core/source", "docs/proof/index"
+BUILT, SOURCE, INDEX = "rust/built", "rust/core/src/source", "docs/proof/index"
 PAGE = f"{BUILT}/yovanelum.html"
 PROGRAM = f"{BUILT}/x86_64-linux/ttd"
 
@@ -44,7 +44,7 @@ def sources(top, crate):
 def source(top, _):
     """The Rust source of the proved crates. It needs no kit."""
     files, _ = eraser.layout.made(top)
-    return {f"rust/src/{path}": text.encode() for path, text in files.items()}
+    return {f"rust/core/src/{path}": text.encode() for path, text in files.items()}
 
 
 def contracts(top, _):

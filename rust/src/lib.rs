@@ -66,8 +66,8 @@
 //! | know what differs from tokio, the limits and the cost | [`guide::limits`], [`guide::speed`] |
 //! | know what is proved | [`guide::proofs`] |
 //!
-//! The crate has only sources and no dependencies, and runs on [every target](guide::platforms) of
-//! Rust's standard library whose pointers have 32 bits or more.
+//! The crate has only sources, depends on packages of its own alone, and runs on
+//! [every target](guide::platforms) of Rust's standard library whose pointers have 32 bits or more.
 #![deny(unsafe_code)]
 #![cfg_attr(feature = "debug_values", feature(specialization))]
 #![cfg_attr(feature = "debug_values", allow(incomplete_features))]
@@ -76,27 +76,19 @@
 compile_error!("yovanelum needs a target whose pointers have 32 bits or more");
 
 mod channels;
-#[cfg(test)]
-#[path = "../tests/support/console.rs"]
-mod console;
-mod core;
 pub mod guide;
 mod harness;
-mod run;
 mod schedule;
 #[cfg(test)]
 #[path = "../tests/support/temporary.rs"]
 mod temporary;
-
-// The proved source names its crates and Rattle's std by these.
-use crate::core::{shim, source};
 
 // Each item has this short path, and its page is in one of the two modules below, so that the front
 // page has few.
 #[doc(hidden)]
 pub use channels::actors::{Named, SpawnedTask, blocking_task, named, set_task_id, spawned_task};
 #[doc(hidden)]
-pub use channels::block_on::block_on;
+pub use channels::block_on::{block_on, set_blocking_check};
 #[doc(hidden)]
 pub use channels::budget::{budgeted, set_budget};
 #[doc(hidden)]
@@ -129,12 +121,14 @@ pub use harness::given;
 #[doc(hidden)]
 pub use harness::program::set_patch;
 #[doc(hidden)]
-pub use run::command::command;
-pub use run::debugger;
-#[doc(hidden)]
-pub use run::sidecar::{Json, read_json};
-#[doc(hidden)]
 pub use schedule::replay::Replayed;
+#[cfg(feature = "report")]
+#[doc(hidden)]
+pub use yovanelum_reader::command::command;
+#[cfg(feature = "report")]
+pub use yovanelum_reader::debugger;
+#[doc(hidden)]
+pub use yovanelum_record::sidecar::{Json, read_json};
 
 /// Lets tests that create no recorder get one by themselves, if `cargo yovanelum` runs them. A
 /// channel calls it, which stands below what it calls.
@@ -154,10 +148,11 @@ pub mod recorder {
     };
     pub use crate::harness::flight::DumpTo;
     pub use crate::harness::for_test::{ForTest, SaveOnPanic};
-    pub use crate::run::command::command;
     pub use crate::schedule::replay::Replayed;
     #[doc(inline)]
     pub use crate::{name, show};
+    #[cfg(feature = "report")]
+    pub use yovanelum_reader::command::command;
 }
 
 /// Events and snapshots of a running service's channels: who lags, and how far each receiver is.

@@ -465,9 +465,7 @@ the first difference: call 5, `audit` received before the send in the passing ru
 #[test]
 fn the_version_is_that_of_the_package_as_cargos_tools_print_theirs() {
     let folder = Folder::new("version");
-    let manifest = include_str!("../Cargo.toml");
-    let (_, version) = manifest.split_once("\nversion = \"").unwrap();
-    let version = version.split_once('"').unwrap().0;
+    let version = env!("CARGO_PKG_VERSION");
     for word in ["--version", "-V"] {
         let said = run(&folder.0, &[word]);
         assert_eq!(said, (0, format!("yovanelum {version}\n"), String::new()));

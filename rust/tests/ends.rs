@@ -102,7 +102,8 @@ fn the_panics_of_a_test_are_in_its_names() {
     assert_eq!(member(&left.names, "test"), wanted);
     // The second panic unwound the recorder.
     assert_eq!(member(&left.names, "ended_by"), "1");
-    let root = Path::new(env!("CARGO_MANIFEST_DIR"));
+    // That of the workspace, by which rustc names its sources.
+    let root = Path::new(env!("CARGO_MANIFEST_DIR")).parent().unwrap();
     assert_eq!(member(&left.names, "root"), format!("{root:?}"));
     let source = checksum(SOURCE.as_bytes());
     assert_eq!(

@@ -87,18 +87,18 @@ fn a_loss_that_nobody_was_told_of() {
         panic!("the test fails");
     }
     let wanted = "\
-failed: a_loss_that_nobody_was_told_of at tests/failing.rs:NN: the test fails
+failed: a_loss_that_nobody_was_told_of at rust/tests/failing.rs:NN: the test fails
 error: `worker` lost 1 of 4 values of `jobs` (capacity 2)
-  --> tests/failing.rs:NN:35
+  --> rust/tests/failing.rs:NN:35
 note: the panic, it had not been told by then
-  --> tests/failing.rs:NN:9
-  call 7      jobs.send(its 4th value)   desk                            tests/failing.rs:NN   overwrote its 2nd value, which worker had not read
-  the panic   not told                   a_loss_that_nobody_was_told_of  tests/failing.rs:NN   its last receive: call 3, its 1st value
+  --> rust/tests/failing.rs:NN:9
+  call 7      jobs.send(its 4th value)   desk                            rust/tests/failing.rs:NN   overwrote its 2nd value, which worker had not read
+  the panic   not told                   a_loss_that_nobody_was_told_of  rust/tests/failing.rs:NN   its last receive: call 3, its 1st value
   lost: its 2nd value
 warning: `log` lost 1 of 4 values of `jobs` (capacity 2)
-  --> tests/failing.rs:NN:35
-  call 7   jobs.send(its 4th value)   desk                            tests/failing.rs:NN   overwrote its 2nd value, which log had not read
-  call 8   dropped: never told        a_loss_that_nobody_was_told_of                        its last receive: call 4, its 1st value
+  --> rust/tests/failing.rs:NN:35
+  call 7   jobs.send(its 4th value)   desk                            rust/tests/failing.rs:NN   overwrote its 2nd value, which log had not read
+  call 8   dropped: never told        a_loss_that_nobody_was_told_of                             its last receive: call 4, its 1st value
   lost: its 2nd value
 look: file://DIR/untold.html#call=7
 ";
@@ -124,23 +124,23 @@ fn three_receivers_of_a_hundred_are_told_of() {
         panic!("the test fails");
     }
     let wanted = "\
-failed: three_receivers_of_a_hundred_are_told_of at tests/failing.rs:NN: the test fails
-error: receiver 1 (created at tests/failing.rs:NN) lost 1 of 2 values of `orders` (capacity 1)
-  --> tests/failing.rs:NN:35
+failed: three_receivers_of_a_hundred_are_told_of at rust/tests/failing.rs:NN: the test fails
+error: receiver 1 (created at rust/tests/failing.rs:NN) lost 1 of 2 values of `orders` (capacity 1)
+  --> rust/tests/failing.rs:NN:35
 note: the panic, it had not been told by then
-  --> tests/failing.rs:NN:9
-  call 101    orders.send(its 2nd value)   desk                                      tests/failing.rs:NN    overwrote its 1st value, which receiver 1 had not read
-  the panic   held, never read             three_receivers_of_a_hundred_are_told_of  tests/failing.rs:NN
+  --> rust/tests/failing.rs:NN:9
+  call 101    orders.send(its 2nd value)   desk                                      rust/tests/failing.rs:NN    overwrote its 1st value, which receiver 1 had not read
+  the panic   held, never read             three_receivers_of_a_hundred_are_told_of  rust/tests/failing.rs:NN
   lost: its 1st value
-warning: receiver 2 (created at tests/failing.rs:NN) lost 1 of 2 values of `orders` (capacity 1)
-  --> tests/failing.rs:NN:35
-  call 101    orders.send(its 2nd value)   desk                                      tests/failing.rs:NN    overwrote its 1st value, which receiver 2 had not read
-  the panic   held, never read             three_receivers_of_a_hundred_are_told_of  tests/failing.rs:NN
+warning: receiver 2 (created at rust/tests/failing.rs:NN) lost 1 of 2 values of `orders` (capacity 1)
+  --> rust/tests/failing.rs:NN:35
+  call 101    orders.send(its 2nd value)   desk                                      rust/tests/failing.rs:NN    overwrote its 1st value, which receiver 2 had not read
+  the panic   held, never read             three_receivers_of_a_hundred_are_told_of  rust/tests/failing.rs:NN
   lost: its 1st value
-warning: receiver 3 (created at tests/failing.rs:NN) lost 1 of 2 values of `orders` (capacity 1)
-  --> tests/failing.rs:NN:35
-  call 101    orders.send(its 2nd value)   desk                                      tests/failing.rs:NN    overwrote its 1st value, which receiver 3 had not read
-  the panic   held, never read             three_receivers_of_a_hundred_are_told_of  tests/failing.rs:NN
+warning: receiver 3 (created at rust/tests/failing.rs:NN) lost 1 of 2 values of `orders` (capacity 1)
+  --> rust/tests/failing.rs:NN:35
+  call 101    orders.send(its 2nd value)   desk                                      rust/tests/failing.rs:NN    overwrote its 1st value, which receiver 3 had not read
+  the panic   held, never read             three_receivers_of_a_hundred_are_told_of  rust/tests/failing.rs:NN
   lost: its 1st value
 and 97 more receivers lost 97 values
 look: file://DIR/hundred.html#call=101
@@ -175,11 +175,11 @@ fn a_close_that_nobody_has_read_up_to() {
         panic!("the test fails");
     }
     let wanted = "\
-failed: a_close_that_nobody_has_read_up_to at tests/failing.rs:NN: the test fails
+failed: a_close_that_nobody_has_read_up_to at rust/tests/failing.rs:NN: the test fails
 warning: `orders` closed, and 1 of 2 receivers were told
-  --> tests/failing.rs:NN:35
+  --> rust/tests/failing.rs:NN:35
   call 3   dropped the last sender   desk
-  call 5   told: closed              audit  tests/failing.rs:NN   after 1 more value
+  call 5   told: closed              audit  rust/tests/failing.rs:NN   after 1 more value
   not that far: `screen`
 yovanelum: no value was lost in 6 calls on 1 channel
 look: file://DIR/closed.html#call=3
@@ -205,10 +205,10 @@ fn a_watch_whose_changes_nobody_learned_of() {
         panic!("the test fails");
     }
     let wanted = "\
-failed: a_watch_whose_changes_nobody_learned_of at tests/failing.rs:NN: the test fails
+failed: a_watch_whose_changes_nobody_learned_of at rust/tests/failing.rs:NN: the test fails
 warning: `worker` never learned of 2 of 2 changes of `state`
-  --> tests/failing.rs:NN:50
-  call 2   state.send(\"closed\")   desk  tests/failing.rs:NN   the last change
+  --> rust/tests/failing.rs:NN:50
+  call 2   state.send(\"closed\")   desk  rust/tests/failing.rs:NN   the last change
 yovanelum: no value was lost in 2 calls on 1 channel
 look: file://DIR/unseen.html#call=2
 ";
@@ -289,12 +289,12 @@ fn a_test_that_returns_an_error_is_told_of() {
         "// The error is passed on here.",
     );
     let channel = line_after(include_str!("failing.rs"), "// It has no name.");
-    let channel = format!("channel of tests/failing.rs:{channel}");
+    let channel = format!("channel of rust/tests/failing.rs:{channel}");
     let wanted = format!(
-        "failed: {test} at tests/failing.rs:{at} returned Empty; call 1 was {channel}: try_recv(): Empty
+        "failed: {test} at rust/tests/failing.rs:{at} returned Empty; call 1 was {channel}: try_recv(): Empty
 error: `{test}` found nothing: nothing was sent to the {channel}
-  --> tests/failing.rs:{at}:32
-  call 1   found nothing   {test}  tests/failing.rs:{at}   {channel}: try_recv()
+  --> rust/tests/failing.rs:{at}:32
+  call 1   found nothing   {test}  rust/tests/failing.rs:{at}   {channel}: try_recv()
 look: file://DIR/result.html#call=1"
     );
     let wanted = wanted.lines().map(String::from).collect();
@@ -400,7 +400,7 @@ fn a_second_panic_while_one_unwinds_writes_nothing() {
     let wanted = [
         // The second panic was caught within the drop.
         &format!(
-            "failed: {}… at tests/failing.rs:{at}: the first panic",
+            "failed: {}… at rust/tests/failing.rs:{at}: the first panic",
             &test[..40]
         ),
         "yovanelum: no value was lost in 2 calls on 1 channel",
@@ -469,11 +469,12 @@ fn who_was_woken_before_the_failure_is_not_told_to_wait() {
     let (_, said) = played(test, &folder);
     let source = include_str!("failing.rs");
     let at = format!(
-        "tests/failing.rs:{}",
+        "rust/tests/failing.rs:{}",
         line_after(source, "// Each of them waits here.")
     );
     // The subscribe is call 1, and the send is the only one behind it.
-    let came = format!("which hasn't run since a value came (call 2, tests/failing.rs:{SEND})");
+    let came =
+        format!("which hasn't run since a value came (call 2, rust/tests/failing.rs:{SEND})");
     let wanted = format!(
         "still waiting: audit in `prices.recv` since call 1, {at}, {came}; \
         screen in `prices.recv` since call 1, {at}, {came}; clerk in `orders.recv` since call 1, {at}"

@@ -78,7 +78,11 @@ fn the_program_prints_what_the_front_page_has_of_it() {
         .replace("-p shop --test shop", "-p yovanelum --test front_page");
     // There the program begins at line 6.
     let here = line_after(include_str!("front_page.rs"), START.trim_end());
-    let wanted = relocated(&wanted, ("tests/shop.rs", 6), ("tests/front_page.rs", here));
+    let wanted = relocated(
+        &wanted,
+        ("tests/shop.rs", 6),
+        ("rust/tests/front_page.rs", here),
+    );
     assert_eq!(lines_of_failure(&said), format!("assertion{wanted}"));
 
     let journal = files.join(format!("{NAME}.journal"));

@@ -75,7 +75,7 @@ fn said_in_the_guide(folder: &Path) -> String {
         .replace(&format!("failed: {NAME} "), &format!("failed: {shown} "));
     // There the program begins at line 6.
     let here = line_after(include_str!("guide.rs"), START.trim_end());
-    relocated(&told, ("tests/bus.rs", 6), ("tests/guide.rs", here))
+    relocated(&told, ("tests/bus.rs", 6), ("rust/tests/guide.rs", here))
 }
 
 /// Runs the program, and returns the lines of its failure on standard error, if it fails.
@@ -180,7 +180,7 @@ fn the_service_prints_what_the_guide_has_of_it() {
     // There the program begins at line 1.
     let here = line_after(include_str!("guide.rs"), SERVICE_START.trim_end());
     let shown = between(SERVICE_PAGE, "```text\n", "```");
-    let wanted = relocated(shown, ("src/main.rs", 1), ("tests/guide.rs", here));
+    let wanted = relocated(shown, ("src/main.rs", 1), ("rust/tests/guide.rs", here));
     let (warning, table) = wanted.split_once('\n').unwrap();
     assert_eq!(told.trim_end(), warning);
     let printed = said.find("prices: ").map_or("", |at| &said[at..]);

@@ -132,13 +132,13 @@ fn a_service_that_is_killed_leaves_whole_dumps() {
         assert!(!status.success());
         before = whole_journals(&dumps, &before);
     }
-    // What was never whole displaces no dump.
+    // What is asked for is counted apart from lags, and what was never whole isn't counted.
     let recorder = Recorder::flight(10);
     recorder.dump_to(&dumps).keep(3);
     let _entered = recorder.enter();
     let _channel = broadcast::channel::<u32>(4);
     let next = recorder.dump("asked for").wait().unwrap();
     let left = whole_journals(&dumps, &before);
-    assert_eq!(left.len(), before.len().min(2) + 1);
+    assert_eq!(left.len(), before.len() + 1);
     assert!(left.contains(&next));
 }

@@ -232,7 +232,7 @@ fn another_failure_is_said() {
     let at = line_after(include_str!("replayed.rs"), "\"fails otherwise\") {");
     let wanted = format!(
         "{LINE}all 9 calls in the recorded order; \
-         another failure: Bob bids, again, at tests/replayed.rs:{at}"
+         another failure: Bob bids, again, at rust/tests/replayed.rs:{at}"
     );
     assert_eq!((succeeds, &said[0]), (false, &wanted));
 }
@@ -249,8 +249,8 @@ fn a_test_that_was_edited_parts_and_says_where() {
         part.env(EDITED, "looks first");
     });
     let diverges = format!(
-        "diverges at call 8 of 9: expected `try-recv 1` on `bids` by `{test}` at tests/replayed.rs:{}, \
-         came `receiver-len 1` on `bids` by `{test}` at tests/replayed.rs:{}",
+        "diverges at call 8 of 9: expected `try-recv 1` on `bids` by `{test}` at rust/tests/replayed.rs:{}, \
+         came `receiver-len 1` on `bids` by `{test}` at rust/tests/replayed.rs:{}",
         LOOK + 2,
         LOOK
     );
@@ -330,8 +330,8 @@ fn a_replay_that_parts_after_a_quiet_question_names_it() {
     let source = include_str!("replayed.rs");
     let asked = line_after(source, "let count = ") - 1;
     let wanted = format!(
-        "`send 0` on `bids` by `clerk` at tests/replayed.rs:{}; before that came `sender-len 0` on `bids` by `clerk` at \
-         tests/replayed.rs:{asked}, and after `quiet_questions()` no replay orders what it returns; ",
+        "`send 0` on `bids` by `clerk` at rust/tests/replayed.rs:{}; before that came `sender-len 0` on `bids` by `clerk` at \
+         rust/tests/replayed.rs:{asked}, and after `quiet_questions()` no replay orders what it returns; ",
         asked + 3
     );
     assert!(
@@ -548,7 +548,7 @@ fn that_no_recorder_follows_is_said_once() {
     });
     let line = format!(
         "yovanelum: YOVANELUM_REPLAY is set, and no recorder follows it for the channel that is created at \
-         tests/replayed.rs:{MADE}: its calls are in no order"
+         rust/tests/replayed.rs:{MADE}: its calls are in no order"
     );
     assert_eq!(said, (true, vec![line]));
     assert_eq!(part.run("", |_| ()), (true, vec![]));

@@ -100,9 +100,14 @@ fn main() {
         }
         "a lag, and then panics" => {
             let reply = serve(&recorder);
-            for number in 0..2 {
+            // Panics at one place have one dump.
+            let opens: [fn(); 2] = [
+                || panic!("no change"),
+                || panic!("no paper"),
+            ];
+            for (number, open) in opens.into_iter().enumerate() {
                 let till = thread::Builder::new().name(format!("till {number}"));
-                till.spawn(|| panic!("no change")).unwrap().join().unwrap_err();
+                till.spawn(open).unwrap().join().unwrap_err();
             }
             reply
         }

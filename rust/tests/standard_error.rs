@@ -53,7 +53,7 @@ fn a_test_that_fails_says_what_happened_and_where_to_look() {
     // Of the name of the test's thread, a report has 40 characters.
     let line = line_after(include_str!("standard_error.rs"), "if name == \"fails\" {");
     let failed = format!(
-        "failed: {}… at tests/standard_error.rs:{line}: the test fails",
+        "failed: {}… at rust/tests/standard_error.rs:{line}: the test fails",
         &test[..40]
     );
     let wanted = [vec![failed], kept("fails", test, &folder.0, 1)].concat();

@@ -99,6 +99,8 @@ fn a_task_of_an_explored_run_may_be_dropped_with_its_thread() {
     let ran = part.arg("--nocapture").env("YOVANELUM_EXPLORE", "2");
     let ran = ran.env("YOVANELUM_EXPLORE_JOBS", "1").output().unwrap();
     let said = String::from_utf8(ran.stderr).unwrap();
-    let line = "explored in_a_thread_local: all 2 runs passed";
-    assert!(ran.status.success() && said.contains(line), "{said}");
+    // No run fails, and nobody stands beside another one in any.
+    let line =
+        "explored in_a_thread_local: nothing was explored: there was one order alone in 2 runs";
+    assert!(!ran.status.success() && said.contains(line), "{said}");
 }

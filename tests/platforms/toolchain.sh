@@ -106,8 +106,10 @@ cargo_1_85() {
     "$rust_root/bin/cargo" "$@"
 }
 
-# The same, with std built from its sources. It needs words for nightly alone, which this variable allows.
+# The same, with std built from its sources. It needs words for nightly alone, which this variable allows. One folder has the crates of std and those
+# of Cargo.lock.
 cargo_and_std() {
+  cp -rn "$out/crates/crates/." "$std_sources/vendor"
   RUSTC_BOOTSTRAP=1 cargo_1_85 "-Zbuild-std=$std_parts" --config 'source.crates-io.replace-with="std"' \
     --config "source.std.directory=\"$std_sources/vendor\"" "$@"
 }

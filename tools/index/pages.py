@@ -105,7 +105,8 @@ class Page:
 
     def without_contract(self, one):
         name = one.block.trait_name()
-        home = next((it for it in self.all_crates.values() if name in it.types), None)
+        # A trait of this crate is meant before one of that name elsewhere.
+        home = next((it for it in (self.crate, *self.all_crates.values()) if name in it.types), None)
         if home:
             trait = f"{home.types[name]}::{one.name}"
             return f"Its contract is that of [`{trait}`]({home.name}.md#{anchor(trait)})."

@@ -3,8 +3,9 @@
 
     tools/prices/compiling.py [CHECKOUT]
 
-Both are compiled at the same time on one processor, so what else the machine does slows down both. It prints a line, and fails if the crate takes more
-than 1.2 times what the last row `price.compiling` of `docs/design/figures.csv` says. Where it does, both are compiled again, up to three times in all, and
+The crate is compiled as the command builds it, and with the feature `report`. All are compiled at the same time on one processor, so what else the
+machine does slows down each. It prints a line, and fails if the crate takes more
+than 1.2 times what the last row `price.compiling` of `docs/design/figures.csv` says. Where it does, all are compiled again, up to three times in all, and
 the least counts: what else the machine does may begin while one of them is compiled. It needs Debian's librust-tokio-dev, and writes only into out/prices,
 or into the folder that YOVANELUM_OUT names.
 """
@@ -50,9 +51,15 @@ def seconds_of(started):
 
 def compiled(checkout, settings, out):
     """What a turn takes for tokio and for the crate of a checkout."""
-    ours = f'yovanelum = {{ path = "{os.path.join(os.path.abspath(checkout), "rust")}" }}'
-    with compiler(TOKIO, settings, os.path.join(out, "compiled-tokio")) as tokio, compiler(ours, settings, os.path.join(out, "compiled")) as crate:
-        return {"tokio": seconds_of(tokio), "none": seconds_of(crate)}
+    with contextlib.ExitStack() as stack:
+        started = {name: stack.enter_context(compiler(it, settings, os.path.join(out, f"compiled-{name}"))) for name, it in compared(checkout).items()}
+        return {name: seconds_of(it) for name, it in started.items()}
+
+
+def compared(checkout):
+    """What is compiled: tokio, the recorder as the command builds it, and with the feature by which it makes reports itself."""
+    ours = f'yovanelum = {{ path = "{os.path.join(os.path.abspath(checkout), "rust")}"'
+    return {"tokio": TOKIO, "none": ours + ", default-features = false }", "report": ours + " }"}
 
 
 def figure():
@@ -65,7 +72,8 @@ def ratio_of_a_turn(most):
     out = os.path.join(os.environ.get("YOVANELUM_OUT") or os.path.join(TOP, "out"), "prices")
     took = compiled(sys.argv[1] if len(sys.argv) > 1 else TOP, {}, out)
     ratio = took["none"] / took["tokio"]
-    print(f"to compile takes {took['none']:.1f} s of a processor, and tokio {took['tokio']:.1f} s: {ratio:.2f} times, and at most {most:.2f}", flush=True)
+    print(f"to compile takes {took['none']:.1f} s of a processor, and tokio {took['tokio']:.1f} s: {ratio:.2f} times, and at most {most:.2f}. With the "
+          f"feature `report` it takes {took['report']:.1f} s: {took['report'] / took['tokio']:.2f} times", flush=True)
     return ratio
 
 

@@ -3,7 +3,7 @@
 //! The one contract: a call of a `Recording` returns the channel's documented reply, and has its entry in the journal. A `Cut` has the
 //! text of the run of its channels, whose journal has each of their entries once. `Findings` are what `rw_findings` finds in a
 //! run. A `RunReader` returns each entry of a text's run, in their order. Start reading at `specs/Calls.antt`, and then read `recording.rt`.
-//! What stands on it: the Rust crate (`rust/`).
+//! What stands on it: `rw_steps`.
 #![tactic(auto)]
 
 mod broadcast_lead;

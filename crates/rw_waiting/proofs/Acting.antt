@@ -7,21 +7,23 @@ use Rattle.std.proofs.lemmas.List.Sums.{sum_by-cons, sum_by_push}
 use Rattle.rw_waiting.specs.declared.notices.WaitFor.{WaitFor}
 use Rattle.rw_waiting.specs.declared.notices.WaitFor.TheVariants.{Value, NoReceiver}
 use Rattle.rw_waiting.specs.declared.queue.Entry.{Entry}
-use Rattle.rw_waiting.specs.Queue.{Queued, with_item, with_items, without}
+use Rattle.rw_waiting.specs.Queue.{Queued, with_item, with_items, with_other, other_among, without}
 use Rattle.rw_waiting.specs.Listed.{Listed, waiting_for, after_told}
 use Rattle.rw_waiting.specs.Waitable.{Waitable}
-use Rattle.rw_waiting.specs.Steps.{Step, Make, Begin, GiveUp, many, woken_of, listed_after, woken_by}
+use Rattle.rw_waiting.specs.Steps.{Step, Make, Begin, Renew, GiveUp, Renumber, many, woken_of, listed_after, woken_by}
 
 -- what happens to a queue
 pub data Act (W : Type 0) : Type 0 where
   Same : Act W
   Added : W → Act W
+  Renewed : ℕ → W → Act W
   Left : ℕ → Act W
   Woken : Act W
 
 abbrev pub act_on : {W : Type 0} → Act W → Queued W → Queued W
 act_on Same q = q
 act_on (Added waker) q = with_item q waker
+act_on (Renewed t waker) q = with_other q t waker
 act_on (Left t) q = without q t
 act_on Woken q = with_items q []
 
@@ -43,7 +45,9 @@ module _ {V C : Type 0} (w : Waitable V C) {W : Type 0} where
   abbrev pub act_of : V → Step C W → WaitFor → Act W
   act_of x (Make c) what = act_told (w.told x c) what
   act_of x (Begin other waker) what = act_at other what (Added waker)
+  act_of x (Renew other t waker) what = act_at other what (Renewed t waker)
   act_of x (GiveUp other t) what = act_at other what (Left t)
+  act_of x Renumber what = Same
 
 told_acts : {W : Type 0} (l : Listed W) (o : Option WaitFor) (what : WaitFor)
     → waiting_for (after_told l o) what ≡ act_on (act_told o what) (waiting_for l what)
@@ -67,6 +71,11 @@ module _ {V C : Type 0} (w : Waitable V C) {W : Type 0} where
   acts x l (Begin Value waker) NoReceiver = refl
   acts x l (Begin NoReceiver waker) Value = refl
   acts x l (Begin NoReceiver waker) NoReceiver = refl
+  acts x l (Renew Value t waker) Value = refl
+  acts x l (Renew Value t waker) NoReceiver = refl
+  acts x l (Renew NoReceiver t waker) Value = refl
+  acts x l (Renew NoReceiver t waker) NoReceiver = refl
+  acts x l Renumber what = refl
   acts x l (GiveUp Value t) Value = refl
   acts x l (GiveUp Value t) NoReceiver = refl
   acts x l (GiveUp NoReceiver t) Value = refl
@@ -78,6 +87,11 @@ module _ {V C : Type 0} (w : Waitable V C) {W : Type 0} where
   gives x l (Begin Value waker) NoReceiver = refl
   gives x l (Begin NoReceiver waker) Value = refl
   gives x l (Begin NoReceiver waker) NoReceiver = refl
+  gives x l (Renew Value t waker) Value = refl
+  gives x l (Renew Value t waker) NoReceiver = refl
+  gives x l (Renew NoReceiver t waker) Value = refl
+  gives x l (Renew NoReceiver t waker) NoReceiver = refl
+  gives x l Renumber what = refl
   gives x l (GiveUp Value t) Value = refl
   gives x l (GiveUp Value t) NoReceiver = refl
   gives x l (GiveUp NoReceiver t) Value = refl
@@ -86,6 +100,7 @@ module _ {V C : Type 0} (w : Waitable V C) {W : Type 0} where
 pub next_grows : {W : Type 0} (a : Act W) (q : Queued W) → q.next ≤ (act_on a q).next
 next_grows Same q = omega arith
 next_grows (Added waker) q = omega arith
+next_grows (Renewed t waker) q = omega arith
 next_grows (Left t) q = omega arith
 next_grows Woken q = omega arith
 
@@ -142,6 +157,15 @@ module _ {W : Type 0} (t : ℕ) where
       let none : (q.next == t) ≡ false = ne_eqb q.next t (λ same. omega (arith, same, fresh)) in
       omega (arith, sum_by_push bit q.items one, ap one_if none)
 
+  -- a call that is renewed keeps its ticket, and no other's changes
+  renewed_many : (number : ℕ) (other : W) (ks : List (Entry W)) → many t (other_among ks number other) ≡ many t ks
+  renewed_many number other [] = refl
+  renewed_many number other (k ∷ ks) = by_number (k.number == number) (renewed_many number other ks) where
+    by_number : (b : Bool) → many t (other_among ks number other) ≡ many t ks
+        → many t (cond b (record k { item = other } ∷ ks) (k ∷ other_among ks number other)) ≡ many t (k ∷ ks)
+    by_number true rest = sum_by-cons bit (record k { item = other }) ks ∙ sym (sum_by-cons bit k ks)
+    by_number false rest = omega (arith, rest, sum_by-cons bit k (other_among ks number other), sum_by-cons bit k ks)
+
   -- an act that isn't this ticket's leaving
   abbrev pub IsNotLeaving : Act W → Type 0
   IsNotLeaving (Left other) = other ≡ t → ⊥
@@ -150,12 +174,14 @@ module _ {W : Type 0} (t : ℕ) where
   pub many_after : (a : Act W) (q : Queued W) → t < q.next → IsNotLeaving a → many t (given a q) + many t (act_on a q).items ≡ many t q.items
   many_after Same q fresh stays = omega arith
   many_after (Added waker) q fresh stays = omega (arith, added q waker fresh)
+  many_after (Renewed other waker) q fresh stays = omega (arith, renewed_many other waker q.items)
   many_after (Left other) q fresh stays = omega (arith, others other q.items stays)
   many_after Woken q fresh stays = omega arith
 
   pub many_less : (a : Act W) (q : Queued W) → t < q.next → many t (act_on a q).items ≤ many t q.items
   many_less Same q fresh = omega arith
   many_less (Added waker) q fresh = omega (arith, added q waker fresh)
+  many_less (Renewed other waker) q fresh = omega (arith, renewed_many other waker q.items)
   many_less (Left other) q fresh = fewer (λ (k : Entry W). not (k.number == other)) q.items
   many_less Woken q fresh = omega arith
 
@@ -165,5 +191,6 @@ module _ {W : Type 0} (t : ℕ) where
   pub spends : (a : Act W) (q : Queued W) → many t (given a q) + budget (act_on a q) ≤ budget q
   spends Same q = omega arith
   spends (Added waker) q = omega (arith, sum_by_push bit q.items (record { number = q.next; item = waker }), given_out t q.next)
+  spends (Renewed other waker) q = omega (arith, renewed_many other waker q.items)
   spends (Left other) q = omega (arith, fewer (λ (k : Entry W). not (k.number == other)) q.items)
   spends Woken q = omega arith

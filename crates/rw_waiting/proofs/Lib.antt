@@ -1,6 +1,10 @@
 pub mod Counting
+pub mod Renumbering
+pub mod Dropping
 pub mod Numbered
 pub mod Receiving
 pub mod Watching
 pub mod Acting
 pub mod Stepping
+pub mod Replying
+pub mod ReplyingWatch

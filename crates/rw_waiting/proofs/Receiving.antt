@@ -11,7 +11,7 @@ use Rattle.rw_handles.specs.declared.kinds.Slot.TheVariants.{Live, Spent}
 use Rattle.rw_handles.specs.declared.kinds.Found.TheVariants.{Handle}
 use Rattle.rw_handles.specs.Slots.{lookup, lookup_at, alive}
 use Rattle.rw_handles.proofs.Checks.{of_checked}
-use Rattle.rw_handles.proofs.Renaming.{get_push_first, get_set_other}
+use Rattle.rw_handles.proofs.Renaming.{get_push_first, get_set_other, live_fewer}
 use Rattle.rw_handles.proofs.SlotLaws.{All-slice_get, found_at_is, found_at_wanted}
 use Rattle.rw_handles.proofs.Tallies.{alive-set, alive-push}
 use Rattle.rw_broadcast.specs.declared.calls.BCall.{BCall}
@@ -27,9 +27,11 @@ use Rattle.rw_ring.specs.Windows.{eviction}
 use Rattle.rw_broadcast.specs.Soundness.{broadcast_laws}
 use Rattle.rw_waiting.specs.declared.notices.WaitFor.{WaitFor}
 use Rattle.rw_waiting.specs.declared.notices.WaitFor.TheVariants as wait
-use Rattle.rw_waiting.specs.Broadcasts.{told, told_by, told_after, Drops, of_broadcast, IsToldByPatch}
+use Rattle.rw_waiting.specs.Broadcasts.{told, told_by, told_after, Drops, renumbered, of_broadcast, IsToldByPatch, RenumbersSo}
 use Rattle.rw_waiting.specs.Broadcasts.{Waits as WaitsFor}
 use Rattle.rw_waiting.specs.Waitable.{WaitLaws}
+use Rattle.rw_waiting.specs.Renumbered.{number_among}
+use Rattle.rw_waiting.proofs.Renumbering.{found_live, has_numbers, alive_live, all_live}
 use Rattle.rw_waiting.proofs.Counting.{some_of, not_none, many_of, if_is, if_so, if_else, one_less}
 
 abbrev WaitsForValue : {V : Type 0} → Shown V → ℕ → Type 0
@@ -428,11 +430,43 @@ module _ {V : Type 0} (x : Shown V) (call : BCall V) where
   none_waits_on wait.Value h ok waits is still = waits_no_longer x h call ok waits (value_told (channel_of x) change is) still
   none_waits_on wait.NoReceiver h ok waits is still = waits_no_longer_for_none x h call (none_told (channel_of x) change is) still
 
+-- ---- the numbers of dropped handles are taken out
+
+module _ {V : Type 0} (x : Shown V) where
+  still_allowed : IsAllowed x → IsAllowed (renumbered x)
+  still_allowed ok = record {
+    some_capacity = ok.some_capacity;
+    small_capacity = ok.small_capacity;
+    retained = ok.retained;
+    few_slots = omega (arith, live_fewer x.slots, ok.few_slots);
+    placed = all_live (IsPlaced x.sent) x.slots ok.placed;
+  }
+
+  waits_renumbered : (what : WaitFor) (h : ℕ) → IsAllowed x → WaitsFor x what h → WaitsFor (renumbered x) what (number_among x.slots h)
+  waits_renumbered wait.Value h ok waits =
+      let e = at_end x h ok waits in
+      waits_at_end (renumbered x) (number_among x.slots h) (still_allowed ok) (record {
+        here = found_live x.slots h Receiver x.sent e.here;
+        «open» = ap (λ n. n == 0) (alive_live Sender x.slots) ∙ e.«open»;
+      })
+  waits_renumbered wait.NoReceiver h ok waits =
+      let e = has_receiver x h waits in
+      waits_for_none (renumbered x) (number_among x.slots h) (record {
+        position = e.position;
+        here = found_live x.slots h Sender e.position e.here;
+        some = omega (arith, alive_live Receiver x.slots, e.some);
+      })
+
+pub renumbers_so : (V : Type 0) → RenumbersSo V
+renumbers_so V before x y is = (is.left, has_numbers before x.slots is.numbers)
+
 pub broadcast_waits : (V : Type 0) → WaitLaws (of_broadcast V)
 broadcast_waits V = record {
   next_allowed = broadcast_laws.next_allowed;
   waits_on = λ x c what h ok waits spared untold. all_wait_on x c what h ok waits spared untold;
   waits_no_longer = λ x c what h ok waits spared is still. none_waits_on x c what h ok waits is still;
+  renumbered_allowed = λ x ok. still_allowed x ok;
+  waits_renumbered = λ x what h ok waits. waits_renumbered x what h ok waits;
 }
 
 -- ---- what was told, by the patch

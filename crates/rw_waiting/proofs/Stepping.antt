@@ -6,8 +6,9 @@ use Rattle.rw_waiting.specs.declared.notices.WaitFor.{WaitFor}
 use Rattle.rw_waiting.specs.declared.notices.WaitFor.TheVariants.{Value, NoReceiver}
 use Rattle.rw_waiting.specs.Listed.{Listed, nobody, waiting_for, with_waiter, after_told}
 use Rattle.rw_waiting.specs.Waitable.{Waitable, WaitLaws}
-use Rattle.rw_waiting.specs.Steps.{Step, Make, Begin, GiveUp, many, IsListed, Stays, view_after, listed_after, woken_by}
-use Rattle.rw_waiting.specs.Steps.{view_after_all, listed_after_all, woken_by_all, Spare, NobodyWaitsInVain, WakesOnlyTheReady, IsWokenOrListed, WakesOnce}
+use Rattle.rw_waiting.specs.Steps.{Step, Make, Begin, Renew, GiveUp, Renumber, many, IsListed, Stays, view_after, listed_after, woken_by}
+use Rattle.rw_waiting.specs.Steps.{view_after_all, listed_after_all, woken_by_all, number_after_all, Spare}
+use Rattle.rw_waiting.specs.Steps.{NobodyWaitsInVain, WakesOnlyTheReady, IsWokenOrListed, WakesOnce}
 use Rattle.rw_waiting.proofs.Acting.{act_of, act_told, acts, gives, next_grows, bit, IsNotLeaving, many_after, many_less, unused, budget, spends}
 
 emptied : {W : Type 0} (l : Listed W) (what : WaitFor) (t : ℕ) → many t (waiting_for (after_told l (Some what)) what).items ≡ 0
@@ -45,8 +46,9 @@ module _ {V C : Type 0} (w : Waitable V C) {W : Type 0} where
       ))
 
   module _ (laws : WaitLaws w) where
-    on : (x : V) (l : Listed W) (steps : List (Step C W)) (what : WaitFor) (h t : ℕ) → w.allowed x → w.waits x what h → Spare w steps what h
-        → t < (waiting_for l what).next → IsListed (listed_after_all w x l steps) what t → w.waits (view_after_all w x steps) what h
+    on : (x : V) (l : Listed W) (steps : List (Step C W)) (what : WaitFor) (h t : ℕ) → w.allowed x → w.waits x what h → Spare w x steps what h
+        → t < (waiting_for l what).next → IsListed (listed_after_all w x l steps) what t
+        → w.waits (view_after_all w x steps) what (number_after_all w x steps h)
     on x l [] what h t ok waits spare fresh listed = waits
     on x l (Make c ∷ steps) what h t ok waits spare fresh listed =
         let untold : w.told x c ≡ Some what → ⊥ = λ is.
@@ -60,15 +62,22 @@ module _ {V C : Type 0} (w : Waitable V C) {W : Type 0} where
         on (w.next x c) (listed_after w x l (Make c)) steps what h t (laws.next_allowed x c ok) (laws.waits_on x c what h ok waits spare.0 untold)
         spare.1 (still_fresh x l (Make c) what t fresh) listed
     on x l (Begin other waker ∷ steps) what h t ok waits spare fresh listed =
-        on x (listed_after w x l (Begin other waker)) steps what h t ok waits spare (still_fresh x l (Begin other waker) what t fresh) listed
+        on x (listed_after w x l (Begin other waker)) steps what h t ok waits spare.1 (still_fresh x l (Begin other waker) what t fresh) listed
+    on x l (Renew other r waker ∷ steps) what h t ok waits spare fresh listed =
+        on x (listed_after w x l (Renew other r waker)) steps what h t ok waits spare.1 (still_fresh x l (Renew other r waker) what t fresh) listed
     on x l (GiveUp other r ∷ steps) what h t ok waits spare fresh listed =
-        on x (listed_after w x l (GiveUp other r)) steps what h t ok waits spare (still_fresh x l (GiveUp other r) what t fresh) listed
+        on x (listed_after w x l (GiveUp other r)) steps what h t ok waits spare.1 (still_fresh x l (GiveUp other r) what t fresh) listed
+    on x l (Renumber ∷ steps) what h t ok waits spare fresh listed =
+        on (w.renumbered x) l steps what (w.number_after x h) t (laws.renumbered_allowed x ok) (laws.waits_renumbered x what h ok waits) spare.1
+        fresh listed
 
     allowed_after : (x : V) (steps : List (Step C W)) → w.allowed x → w.allowed (view_after_all w x steps)
     allowed_after x [] ok = ok
     allowed_after x (Make c ∷ steps) ok = allowed_after (w.next x c) steps (laws.next_allowed x c ok)
     allowed_after x (Begin other waker ∷ steps) ok = allowed_after x steps ok
+    allowed_after x (Renew other r waker ∷ steps) ok = allowed_after x steps ok
     allowed_after x (GiveUp other r ∷ steps) ok = allowed_after x steps ok
+    allowed_after x (Renumber ∷ steps) ok = allowed_after (w.renumbered x) steps (laws.renumbered_allowed x ok)
 
   one_stays : (x : V) (s : Step C W) (steps : List (Step C W)) (what : WaitFor) (t : ℕ) → Stays (s ∷ steps) what t → IsNotLeaving t (act_of w x s what)
   one_stays x (Make c) steps what t stays = told_stays W t (w.told x c) what
@@ -76,6 +85,11 @@ module _ {V C : Type 0} (w : Waitable V C) {W : Type 0} where
   one_stays x (Begin Value waker) steps NoReceiver t stays = tt
   one_stays x (Begin NoReceiver waker) steps Value t stays = tt
   one_stays x (Begin NoReceiver waker) steps NoReceiver t stays = tt
+  one_stays x (Renew Value r waker) steps Value t stays = tt
+  one_stays x (Renew Value r waker) steps NoReceiver t stays = tt
+  one_stays x (Renew NoReceiver r waker) steps Value t stays = tt
+  one_stays x (Renew NoReceiver r waker) steps NoReceiver t stays = tt
+  one_stays x Renumber steps what t stays = tt
   one_stays x (GiveUp Value r) steps Value t stays = stays.0 refl
   one_stays x (GiveUp Value r) steps NoReceiver t stays = tt
   one_stays x (GiveUp NoReceiver r) steps Value t stays = tt
@@ -84,7 +98,9 @@ module _ {V C : Type 0} (w : Waitable V C) {W : Type 0} where
   rest_stays : (s : Step C W) (steps : List (Step C W)) (what : WaitFor) (t : ℕ) → Stays (s ∷ steps) what t → Stays steps what t
   rest_stays (Make c) steps what t stays = stays
   rest_stays (Begin other waker) steps what t stays = stays
+  rest_stays (Renew other r waker) steps what t stays = stays
   rest_stays (GiveUp other r) steps what t stays = stays.1
+  rest_stays Renumber steps what t stays = stays
 
   woken_or_listed_after : (x : V) (l : Listed W) (what : WaitFor) (t : ℕ) (steps : List (Step C W)) → t < (waiting_for l what).next → Stays steps what t
       → many t (woken_by_all w x l steps what) + many t (waiting_for (listed_after_all w x l steps) what).items ≡ many t (waiting_for l what).items
@@ -130,7 +146,7 @@ module _ {V C : Type 0} (w : Waitable V C) {W : Type 0} where
 
   pub only_the_ready : WaitLaws w → WakesOnlyTheReady w W
   only_the_ready laws x l what h waker steps c ok waits spare spared listed is still =
-      laws.waits_no_longer (view_after_all w x steps) c what h (allowed_after w laws x steps ok)
+      laws.waits_no_longer (view_after_all w x steps) c what (number_after_all w x steps h) (allowed_after w laws x steps ok)
       (in_vain laws x l what h waker steps ok waits spare listed) spared is still
 
   pub woken_or_listed : IsWokenOrListed w W

@@ -11,7 +11,7 @@ use Rattle.rw_handles.specs.declared.kinds.Slot.TheVariants.{Live, Spent}
 use Rattle.rw_handles.specs.declared.kinds.Found.TheVariants.{Handle}
 use Rattle.rw_handles.specs.Slots.{lookup, lookup_at, alive}
 use Rattle.rw_handles.proofs.Checks.{of_checked}
-use Rattle.rw_handles.proofs.Renaming.{get_push_first, get_set_other}
+use Rattle.rw_handles.proofs.Renaming.{get_push_first, get_set_other, live_fewer}
 use Rattle.rw_handles.proofs.SlotLaws.{found_at_is, found_at_wanted, slice_get-set}
 use Rattle.rw_handles.proofs.Tallies.{alive-set, alive-push}
 use Rattle.rw_watch.specs.declared.calls.WCall.{WCall}
@@ -21,14 +21,16 @@ use Rattle.rw_watch.specs.declared.calls.WReply.{WReply}
 use Rattle.rw_watch.specs.declared.calls.WReply.TheVariants.{Closed, Waits, Done, TooManyHandles}
 use Rattle.rw_watch.specs.Channel.{Channel, Change, Keep, Write, Make, Mark, Leave, handle_of, wanted_kind, makes, is_unseen, wait_effect}
 use Rattle.rw_watch.specs.Channel.{fault_reply, is_closed, has_no_receiver, effect_with, effect_found, effect}
-use Rattle.rw_watch.specs.Shown.{Shown, with_change, patch_for, patch_of_mark, patch_of_drop, next}
+use Rattle.rw_watch.specs.Shown.{Shown, with_change, patch_for, patch_of_mark, patch_of_drop, next, IsMarked, IsAllowed}
 use Rattle.rw_watch.specs.Soundness.{watch_laws}
 use Rattle.rw_waiting.specs.declared.notices.WaitFor.{WaitFor}
 use Rattle.rw_waiting.specs.declared.notices.WaitFor.TheVariants as wait
 use Rattle.rw_waiting.specs.Told.{told_by_drop}
-use Rattle.rw_waiting.specs.Watches.{told, told_by, told_after, Drops, Unsees, of_watch, IsToldByPatch}
+use Rattle.rw_waiting.specs.Watches.{told, told_by, told_after, Drops, Unsees, renumbered, of_watch, IsToldByPatch, RenumbersSo}
 use Rattle.rw_waiting.specs.Watches.{Waits as WaitsFor}
 use Rattle.rw_waiting.specs.Waitable.{WaitLaws}
+use Rattle.rw_waiting.specs.Renumbered.{number_among}
+use Rattle.rw_waiting.proofs.Renumbering.{found_live, has_numbers, alive_live, all_live}
 use Rattle.rw_waiting.proofs.Counting.{some_of, not_none, many_of, if_is, if_so, if_else, one_less}
 
 -- whether a change tells those who wait for a change, and those who wait for no receiver
@@ -367,11 +369,40 @@ module _ {V : Type 0} (x : Shown V) (call : WCall V) where
   none_waits_on wait.NoReceiver h waits is still =
       ends_for_none x call change (is_made_by x call) (none_told x change is) (some_of _ (has_receiver (next x call) h still).some)
 
+-- ---- the numbers of dropped handles are taken out
+
+module _ {V : Type 0} (x : Shown V) where
+  still_allowed : IsAllowed x → IsAllowed (renumbered x)
+  still_allowed ok = record {
+    few_slots = omega (arith, live_fewer x.slots, ok.few_slots);
+    marked = all_live (IsMarked x.version) x.slots ok.marked;
+  }
+
+  waits_renumbered : (what : WaitFor) (h : ℕ) → WaitsFor x what h → WaitsFor (renumbered x) what (number_among x.slots h)
+  waits_renumbered wait.Value h waits =
+      let e = has_seen x h waits in
+      waits_seen (renumbered x) (number_among x.slots h) (record {
+        here = found_live x.slots h Receiver (Some x.version) e.here;
+        «open» = ap (λ n. n == 0) (alive_live Sender x.slots) ∙ e.«open»;
+      })
+  waits_renumbered wait.NoReceiver h waits =
+      let e = has_receiver x h waits in
+      waits_for_none (renumbered x) (number_among x.slots h) (record {
+        mark = e.mark;
+        here = found_live x.slots h Sender e.mark e.here;
+        some = ap (λ n. n == 0) (alive_live Receiver x.slots) ∙ e.some;
+      })
+
+pub renumbers_so : (V : Type 0) → RenumbersSo V
+renumbers_so V before x y is = (is.left, has_numbers before x.slots is.numbers)
+
 pub watch_waits : (V : Type 0) → WaitLaws (of_watch V)
 watch_waits V = record {
   next_allowed = watch_laws.next_allowed;
   waits_on = λ x c what h ok waits spared untold. all_wait_on x c what h waits spared untold;
   waits_no_longer = λ x c what h ok waits spared is still. none_waits_on x c what h waits is still;
+  renumbered_allowed = λ x ok. still_allowed x ok;
+  waits_renumbered = λ x what h ok waits. waits_renumbered x what h waits;
 }
 
 -- ---- what was told, by the patch

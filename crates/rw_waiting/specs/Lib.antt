@@ -1,4 +1,5 @@
 pub mod Told
+pub mod Renumbered
 pub mod Queue
 pub mod Waitable
 pub mod Listed

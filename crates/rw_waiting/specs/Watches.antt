@@ -1,18 +1,22 @@
 -- Who waits for a watch channel, and what a step tells them.
-use Rattle.std.specs.Prelude.{◌≡◌, ℕ, ◌==◌, if◌then◌else◌, Option, Some, None}
+use Rattle.std.specs.Prelude.{◌≡◌, ℕ, ◌==◌, if◌then◌else◌, Bool, true, false, List, Option, Some, None}
 use Rattle.rw_handles.specs.declared.kinds.Kind.TheVariants.{Sender, Receiver}
+use Rattle.rw_handles.specs.Renaming.{live_ones}
 use Rattle.rw_handles.specs.Slots.{alive}
+use Rattle.rw_watch.specs.Renaming.{IsRenumbered}
 use Rattle.rw_watch.specs.declared.calls.WPatch.{WPatch}
 use Rattle.rw_watch.specs.declared.calls.WPatch.TheVariants.{Wrote, Left, LeftUnmarked}
 use Rattle.rw_watch.specs.declared.calls.WCall.{WCall}
 use Rattle.rw_watch.specs.declared.calls.WCall.TheVariants.{Changed, MarkChanged, AwaitClosed, DropHandle}
+use Rattle.rw_watch.specs.declared.calls.WReply.{WReply}
 use Rattle.rw_watch.specs.declared.calls.WReply.TheVariants as wreply
 use Rattle.rw_watch.specs.Channel.{Channel, Change, Write, effect}
 use Rattle.rw_watch.specs.Channel.{Leave}
 use Rattle.rw_watch.specs.Shown.{Shown, IsAllowed, next, reply_of, patch_of}
 use Rattle.rw_waiting.specs.declared.notices.WaitFor.{WaitFor}
 use Rattle.rw_waiting.specs.declared.notices.WaitFor.TheVariants.{Value, NoReceiver}
-use Rattle.rw_waiting.specs.Told.{told_by_drop}
+use Rattle.rw_waiting.specs.Told.{told_by_drop, told_by_counts, counts_of}
+use Rattle.rw_waiting.specs.Renumbered.{number_among, HasNumbers}
 use Rattle.rw_waiting.specs.Waitable.{Waitable}
 
 -- `changed` of receiver h would wait, or `closed` of sender h would: that is its documented reply
@@ -47,8 +51,20 @@ abbrev pub Spares : {V : Type 0} → WCall V → WaitFor → ℕ → Type 0
 Spares call Value h = (Drops call h → ⊥) × (Unsees call h → ⊥)
 Spares call NoReceiver h = Drops call h → ⊥
 
+-- only the live handles are left, as `renumber` leaves them
+abbrev pub renumbered : {V : Type 0} → Shown V → Shown V
+renumbered x = record x { slots = live_ones x.slots }
+
 abbrev pub of_watch : (V : Type 0) → Waitable (Shown V) (WCall V)
-of_watch V = record { allowed = IsAllowed; next = next; waits = Waits; told = told_by; spares = Spares }
+of_watch V = record {
+  allowed = IsAllowed;
+  next = next;
+  waits = Waits;
+  told = told_by;
+  spares = Spares;
+  renumbered = renumbered;
+  number_after = λ x h. number_among x.slots h;
+}
 
 -- the same, by what is shown after the step and by its patch
 abbrev pub told_after : {V : Type 0} → Shown V → WPatch V → Option WaitFor
@@ -56,6 +72,32 @@ told_after y (Wrote notified before) = if notified then Some Value else None
 told_after y (Left kind mark) = told_by_drop kind (alive kind y.slots)
 told_after y (LeftUnmarked kind) = told_by_drop kind (alive kind y.slots)
 told_after y _ = None
+
+-- the same, by its reply, where the drop of a handle would have told so
+abbrev pub told_after_reply : {V : Type 0} → (dropped : Option WaitFor) → WReply V → Option WaitFor
+told_after_reply dropped wreply.Stored = Some Value
+told_after_reply dropped (wreply.Old before) = Some Value
+told_after_reply dropped (wreply.Told notified) = if notified then Some Value else None
+told_after_reply dropped wreply.Dropped = dropped
+told_after_reply dropped _ = None
+
+-- whether a call drops a handle
+abbrev pub drops : {V : Type 0} → WCall V → Bool
+drops (DropHandle h) = true
+drops _ = false
+
+-- what a step told is known from its reply, and from the counts before and after it
+abbrev pub IsToldByReply : Type 0 → Type 0
+IsToldByReply V = (x : Shown V) (call : WCall V)
+    → told_after_reply (told_by_counts (counts_of x.slots) (counts_of (next x call).slots)) (reply_of x call) ≡ told_by x call
+
+-- if it drops no handle, from its reply alone
+abbrev pub IsToldByReplyAlone : Type 0 → Type 0
+IsToldByReplyAlone V = (x : Shown V) (call : WCall V) → drops call ≡ false → told_after_reply None (reply_of x call) ≡ told_by x call
+
+-- `renumber` leaves what `renumbered` says, and its answer has each number where `number_among` says
+abbrev pub RenumbersSo : Type 0 → Type 0
+RenumbersSo V = (before : List ℕ) (x y : Shown V) → IsRenumbered before x y → (y ≡ renumbered x) × HasNumbers before x.slots
 
 -- what a step told is known from its patch
 abbrev pub IsToldByPatch : Type 0 → Type 0

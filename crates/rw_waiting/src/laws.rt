@@ -1,5 +1,5 @@
 //! What holds of the calls that wait.
-ghost use Rattle.rw_waiting.specs.Broadcasts.{IsToldByPatch, of_broadcast};
+ghost use Rattle.rw_waiting.specs.Broadcasts.{IsToldByPatch, IsToldByReply, IsToldByReplyAlone, RenumbersSo, of_broadcast};
 ghost use Rattle.rw_waiting.specs.Watches.{of_watch};
 ghost use Rattle.rw_waiting.specs.Watches as watches;
 ghost use Rattle.rw_waiting.specs.Waitable.{WaitLaws};
@@ -11,12 +11,20 @@ pub fn broadcast_waiting<V: Copy>()
     ensures laws { WaitLaws (of_broadcast V) }
     // What a call told is known from its patch.
     ensures patch { IsToldByPatch V }
+    // It is known from its reply, too, and of a drop from the counts before and after it.
+    ensures reply { IsToldByReply V }
+    ensures reply_alone { IsToldByReplyAlone V }
+    // `renumber` leaves what the laws say of it.
+    ensures renumber { RenumbersSo V }
 {}
 
 /// The same, for watches.
 pub fn watch_waiting<V: Copy>()
     ensures laws { WaitLaws (of_watch V) }
     ensures patch { watches.IsToldByPatch V }
+    ensures reply { watches.IsToldByReply V }
+    ensures reply_alone { watches.IsToldByReplyAlone V }
+    ensures renumber { watches.RenumbersSo V }
 {}
 
 /// Nobody waits in vain for a broadcast. The function does nothing: its clauses are the laws.

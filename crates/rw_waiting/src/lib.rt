@@ -5,7 +5,7 @@
 //! handle, for broadcasts and for watches.
 //! Start reading at `specs/Steps.antt`, which says so, with `specs/Waitable.antt`: what a channel has to say of those who wait for it.
 //! `specs/Broadcasts.antt` and `specs/Watches.antt` say it in the words of tokio's documentation. Then read `waiting.rt`.
-//! What stands on it: the Rust crate (`rust/`).
+//! What stands on it: `rw_steps`.
 #![tactic(auto)]
 
 mod broadcasts;
@@ -20,7 +20,7 @@ pub use laws::{
     broadcast_waiting, nobody_waits_in_vain_for_broadcast, nobody_waits_in_vain_for_watch,
     watch_waiting,
 };
-pub use notices::{Notice, WaitFor, told};
+pub use notices::{Counts, Notice, WaitFor, told, told_by_counts};
 pub use queue::{Entry, Queue};
 pub use waiting::Waiting;
 pub use watches::{call_watch, told_on_watch};

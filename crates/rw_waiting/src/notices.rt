@@ -1,5 +1,6 @@
 //! What calls wait for, and what tells them that they may go on.
 ghost use Rattle.std.specs.Prelude.{◌≡◌};
+ghost use Rattle.rw_waiting.specs.Told as spec;
 ghost use Rattle.rw_waiting.specs.Told.{told_of};
 
 use rw_handles::Kind;
@@ -20,6 +21,27 @@ pub enum Notice {
     Sent,
     /// It has dropped a handle of this kind, and this number of its kind is alive then.
     Dropped(Kind, u64),
+}
+
+/// How many senders and how many receivers of a channel are alive.
+#[derive(Clone, Copy, Debug, PartialEq, Eq)]
+pub struct Counts {
+    pub senders: u64,
+    pub receivers: u64,
+}
+
+/// Returns which calls a drop wakes, by the counts before it and those that are left. The drop of the last sender wakes those who wait for
+/// a value, and that of the last receiver those who wait for no receiver.
+pub fn told_by_counts(before: Counts, left: Counts) -> Option<WaitFor>
+    ensures { result ≡ spec.told_by_counts before left }
+{
+    if before.senders > 0 && left.senders == 0 {
+        return Some(WaitFor::Value);
+    }
+    if before.receivers > 0 && left.receivers == 0 {
+        return Some(WaitFor::NoReceiver);
+    }
+    None
 }
 
 /// Returns which calls a notice wakes: all that wait for this. A value wakes those who wait for one, and so does the drop of the last

@@ -2,9 +2,9 @@
 //! first difference in words.
 
 use crate::part::{NONE, Part, word};
-use crate::run::account::against::{Against, DiffersBy, Listener};
-use crate::run::journal::Run;
-use crate::run::sidecar::Sidecar;
+use yovanelum_reader::account::against::{Against, DiffersBy, Listener};
+use yovanelum_record::journal::Run;
+use yovanelum_record::sidecar::Sidecar;
 
 /// The calls of the run here by their places: their partners there, or 0, and by what each differs,
 /// or 0; the channels there by their numbers: which each is here, or `NONE`; and what the run there

@@ -2,10 +2,10 @@
 //! the calls: what the first picture needs.
 
 use crate::part::{NONE, Part, word};
-use crate::run::journal::{Run, RunEntry};
-use crate::run::operation::{Kind, Operation};
-use crate::run::reply::Reply;
 use crate::shim::memchr::memchr;
+use yovanelum_record::journal::{Run, RunEntry};
+use yovanelum_record::operation::{Kind, Operation};
+use yovanelum_record::reply::Reply;
 
 /// The mark of a call in the picture, by its reply, and in one case by its word. The page has a
 /// name for each number (`run/marks.js`).

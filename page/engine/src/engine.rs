@@ -4,10 +4,6 @@
 use crate::beside::Beside;
 use crate::opening::{Played, is_journal, play};
 use crate::part::{Part, word, word_or_none};
-use crate::run::account::Account;
-use crate::run::debugger::Channel;
-use crate::run::journal::{self, Findings, FoundTraffic, Run, TextFault};
-use crate::run::sidecar::Sidecar;
 use crate::search::{Wanted, hits};
 use crate::shim::alloc::Global;
 use crate::source::rw_answers::{Opened, debug_page, salvage_page, session_page};
@@ -15,6 +11,10 @@ use crate::source::rw_findings::Stretches;
 use crate::source::rw_lines::StreamFault;
 use crate::source::rw_navigator::{Move, Visitor};
 use crate::{columns, found, levels, states};
+use yovanelum_reader::account::Account;
+use yovanelum_reader::debugger::Channel;
+use yovanelum_record::journal::{self, Findings, FoundTraffic, Run, TextFault};
+use yovanelum_record::sidecar::Sidecar;
 
 /// Why there is no answer, in words.
 #[derive(Debug, PartialEq, Eq)]

@@ -1,11 +1,11 @@
 //! What is found in a run, in columns: its losses, closings, totals, handles and values.
 
 use crate::part::{NONE, Part, word, word_or_none};
-use crate::run::journal::{Counts, Findings, FoundTraffic, LossEnd, Run};
 use crate::shim::alloc::Global;
 use crate::source::rw_findings::{Life, losses_of};
 use crate::source::rw_handles::Kind;
 use crate::source::rw_law::NoMemory;
+use yovanelum_record::journal::{Counts, Findings, FoundTraffic, LossEnd, Run};
 
 /// Returns the losses: of each its channel and receiver, the place from which on it is, how many
 /// values were lost, how it ended (0 told, 1 dropped, 2 open), and at which place.

@@ -1,10 +1,10 @@
 //! How much receivers have yet to receive in stretches of places: what is drawn of a run from far.
 
 use crate::part::{Part, word};
-use crate::run::journal::{Run, Spec};
 use crate::shim::alloc::Global;
 use crate::source::rw_findings::{Measure, Stretches, peaks_of};
 use crate::source::rw_law::NoMemory;
+use yovanelum_record::journal::{Run, Spec};
 
 /// The greatest number of stretches that are accepted: the page has at most 1,500.
 pub(crate) const MOST_STRETCHES: u64 = 65_536;

@@ -1,9 +1,9 @@
 //! The engine of the page: what of the Rust crate reads a run, with exports of its own. `./build
 //! page` compiles it for WebAssembly.
 //!
-//! The layers `core` and `run` of `rust/src` are included here as they are: so the page, `yovanelum
-//! why` and the adapter read a run by the same functions. Of the proved crates it has those of the
-//! library, those of `ttd`'s console, and `rw_answers`.
+//! It stands on `yovanelum-reader`: so the page, `yovanelum why` and the adapter read a run by the
+//! same functions. Of the proved crates it has those of `yovanelum-core`, those of `ttd`'s console,
+//! and `rw_answers`.
 
 mod beside;
 mod columns;
@@ -18,11 +18,6 @@ mod opening;
 pub mod part;
 mod search;
 mod states;
-
-// What the program and the tests use of it isn't used here.
-#[allow(dead_code, unused_imports)]
-#[path = "../../../rust/src/run/mod.rs"]
-mod run;
 
 use crate::core::{shim, source};
 

@@ -8,13 +8,13 @@ mod shapes;
 pub(crate) use self::numbers::Numbers;
 
 use self::shapes::Shapes;
-use crate::run::journal::{Run, RunEntry};
-use crate::run::operation::Operation;
-use crate::run::reply::Reply;
-use crate::run::sidecar::Sidecar;
 use crate::source::rw_law;
 use crate::source::rw_words::write_entry;
 use crate::source::rw_world::World;
+use yovanelum_record::journal::{Run, RunEntry};
+use yovanelum_record::operation::Operation;
+use yovanelum_record::reply::Reply;
+use yovanelum_record::sidecar::Sidecar;
 
 /// An entry as the core has it.
 type Line = rw_law::Entry<World<u64>>;

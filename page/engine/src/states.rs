@@ -3,7 +3,7 @@
 //! many places.
 
 use crate::part::{NONE, word, word_or_none};
-use crate::run::debugger::{Broadcast, Channel, Watch};
+use yovanelum_reader::debugger::{Broadcast, Channel, Watch};
 
 /// How many of the retained values the page gets.
 const NEWEST: u64 = 16;

@@ -149,7 +149,7 @@ impl Debuggee {
     /// Reads a condition, in which names may stand for numbers.
     fn condition(&self, text: &str) -> Answer<Condition> {
         let read = text.parse().ok();
-        let condition = read.and_then(|it: NamedCondition| it.by_numbers(&self.recording.things));
+        let condition = read.and_then(|it: NamedCondition| self.recording.things.condition(&it));
         condition.ok_or_else(|| Refusal(format!("there is no condition `{text}`: see `help`")))
     }
 

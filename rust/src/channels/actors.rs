@@ -15,29 +15,32 @@ mod spawned;
 #[cfg(test)]
 mod tests;
 
-use crate::run::listed::IntoList;
 pub use caller::set_task_id;
 pub(crate) use caller::{
     CallerNumber, current, current_task, forget_last_recorder, has_called, is_dropping_future,
     last_recorder, name_of_blocked, name_of_caller, name_of_future, name_of_sharing, name_of_task,
     name_of_thread_alone, number_of_caller, own_number, write_caller,
 };
-pub(crate) use explored::{is_in_task, is_over_facade, last_task, note_facade, set_last_task};
+pub(crate) use explored::{
+    BlockedPoll, is_in_blocked_poll, is_in_task, is_over_facade, last_task, note_facade,
+    note_wait_of_thread, set_last_task,
+};
 pub(crate) use holders::Unused;
 pub(crate) use identity::Identity;
 pub(crate) use last_caller::{LastCaller, LastName};
 pub use named::{Named, named};
 pub(crate) use origin::SPAWNED_TASK;
 pub use spawned::{SpawnedTask, blocking_task, spawned_task};
+use yovanelum_record::listed::IntoList;
 
 use crate::channels::backend::Actor;
 use crate::channels::channel::CallSite;
-use crate::run::by_text::{TextMap, TextSet};
-use crate::run::numbered::{NumberMap, NumberSet};
 use caller::{is_spawned_task, is_unnamed, name_of_thread};
 use holders::{Holder, Holders};
 use std::collections::VecDeque;
 use std::panic::Location;
+use yovanelum_record::by_text::{TextMap, TextSet};
+use yovanelum_record::numbered::{NumberMap, NumberSet};
 
 /// Where the name of a thread begins that has none.
 pub(crate) const UNNAMED_THREAD: &str = "ThreadId(";

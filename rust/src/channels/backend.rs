@@ -5,20 +5,24 @@
 
 mod flight;
 #[cfg(test)]
+mod telling;
+#[cfg(test)]
 mod tests;
 
-pub(crate) use crate::core::source::rw_recording::{CutFault, OpenFault, Spec};
 pub(crate) use flight::{ENTRIES_AT_MOST, Kept, LEAD, Lead, MOST_CHUNK, Window, WindowFault};
+pub(crate) use yovanelum_core::source::rw_recording::{CutFault, OpenFault, Spec};
 
-use crate::core::shim::Vec;
-use crate::core::shim::alloc::Global;
-use crate::core::source::rw_journal::CallForm;
-use crate::core::source::rw_law::NoMemory;
-use crate::core::source::rw_recording::{self, BCall as B, ChanCall, Flight, Kind, WCall as W};
-use crate::run::calls::with_calls;
-use crate::run::journal::Run;
-use crate::run::operation::Operation;
-use crate::run::reply::Reply;
+use std::task::Waker;
+use yovanelum_core::shim::Vec;
+use yovanelum_core::shim::alloc::Global;
+use yovanelum_core::source::rw_journal::CallForm;
+use yovanelum_core::source::rw_law::NoMemory;
+use yovanelum_core::source::rw_recording::{self, BCall as B, ChanCall, Flight, Kind, WCall as W};
+use yovanelum_core::source::rw_steps::{self, Records, Told};
+use yovanelum_record::calls::with_calls;
+use yovanelum_record::journal::Run;
+use yovanelum_record::operation::Operation;
+use yovanelum_record::reply::Reply;
 
 /// The number of an actor, below 64.
 #[derive(Clone, Copy, Debug, PartialEq, Eq)]
@@ -265,12 +269,25 @@ impl Recording {
     /// build that is optimized with debug assertions has a sixth more instructions of it.
     #[inline(never)]
     fn call_any(&mut self, caller: Caller, call: ChanCall<u64>) -> Reply {
-        Reply::of_call::<false>(match &mut self.last {
+        match &mut self.last {
             Some(flight) if !self.all.is_recorded() => {
-                flight.call(caller.actor.0, caller.clock, call)
+                call_of::<false, _>(&mut **flight, caller, call)
             }
-            _ => self.all.call(caller.actor.0, caller.clock, call),
-        })
+            _ => call_of::<false, _>(&mut self.all, caller, call),
+        }
+    }
+
+    /// As [`call_any`](Recording::call_any), of a call that drops a handle while some call waits.
+    /// Returns what it tells.
+    #[inline(never)]
+    fn step_any(&mut self, caller: Caller, call: ChanCall<u64>) -> (Reply, Told) {
+        let (actor, clock) = (caller.actor.0, caller.clock);
+        match &mut self.last {
+            Some(flight) if !self.all.is_recorded() && caller.clock != Caller::UNRECORDED.clock => {
+                rw_steps::step(&mut **flight, actor, clock, call)
+            }
+            _ => rw_steps::step(&mut self.all, actor, clock, call),
+        }
     }
 
     /// Makes a call where not all calls are recorded.
@@ -282,11 +299,11 @@ impl Recording {
         call: impl FnOnce() -> ChanCall<u64>,
     ) -> Reply {
         if caller.clock == Caller::UNRECORDED.clock {
-            return call_unrecorded::<OF_HANDLES>(&mut self.all, caller, call);
+            return call_of::<OF_HANDLES, _>(&mut self.all, caller, call());
         }
         match &mut self.last {
             Some(flight) => call_last::<OF_HANDLES>(flight, caller, call),
-            None => call_unrecorded::<OF_HANDLES>(&mut self.all, caller, call),
+            None => call_of::<OF_HANDLES, _>(&mut self.all, caller, call()),
         }
     }
 }
@@ -299,17 +316,21 @@ fn call_last<const OF_HANDLES: bool>(
     caller: Caller,
     call: impl FnOnce() -> ChanCall<u64>,
 ) -> Reply {
-    Reply::of_call::<OF_HANDLES>(flight.call(caller.actor.0, caller.clock, call()))
+    call_of::<OF_HANDLES, _>(flight, caller, call())
 }
 
-/// Makes a call that isn't recorded.
+/// Makes a call of the core.
 #[inline(always)]
-fn call_unrecorded<const OF_HANDLES: bool>(
-    all: &mut rw_recording::Recording,
+fn call_of<const OF_HANDLES: bool, C: Records>(
+    channel: &mut C,
     caller: Caller,
-    call: impl FnOnce() -> ChanCall<u64>,
+    call: ChanCall<u64>,
 ) -> Reply {
-    Reply::of_call::<OF_HANDLES>(all.call(caller.actor.0, caller.clock, call()))
+    if OF_HANDLES {
+        rw_steps::call_of_handles(channel, caller.actor.0, caller.clock, call)
+    } else {
+        rw_steps::call(channel, caller.actor.0, caller.clock, call)
+    }
 }
 
 /// Goes on from a recording that hasn't ended with its last calls alone.
@@ -344,13 +365,26 @@ macro_rules! methods {
                     return self.call_apart::<OF_HANDLES>(caller, call);
                 }
                 let call = ChanCall::$side($side::$variant $args);
-                Reply::of_call::<OF_HANDLES>(self.all.call(caller.actor.0, caller.clock, call))
+                call_of::<OF_HANDLES, _>(&mut self.all, caller, call)
             })*)*
         }
     };
 }
 
 with_calls!(methods);
+
+/// The futures that wait, each with its waker, once that is cloned.
+pub(crate) type WakerList = rw_steps::Waiters<Option<Waker>>;
+
+impl Recording {
+    pub(crate) fn broadcast_drop_step(&mut self, caller: Caller, handle: u32) -> (Reply, Told) {
+        self.step_any(caller, ChanCall::B(B::DropHandle(handle)))
+    }
+
+    pub(crate) fn watch_drop_step(&mut self, caller: Caller, handle: u32) -> (Reply, Told) {
+        self.step_any(caller, ChanCall::W(W::DropHandle(handle)))
+    }
+}
 
 /// What channels have recorded up to one stamp.
 pub(crate) struct Cut(rw_recording::Cut);

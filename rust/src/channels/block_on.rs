@@ -4,8 +4,8 @@ use crate::channels::budget::Budgeted;
 use std::cell::Cell;
 use std::future::Future;
 use std::pin::pin;
-use std::sync::Arc;
 use std::sync::atomic::{AtomicBool, Ordering};
+use std::sync::{Arc, OnceLock};
 use std::task::{Context, Poll, Wake, Waker};
 use std::thread::{self, Thread};
 
@@ -32,6 +32,26 @@ thread_local! {
 /// Whether the current thread polls a future that it is blocked on.
 pub(crate) fn is_blocked_on_future() -> bool {
     BLOCKED_ON.get() > 0
+}
+
+/// What panics where the current thread must not be blocked, since it runs a runtime's tasks.
+static CHECK: OnceLock<fn()> = OnceLock::new();
+
+/// Has this function called before a thread is blocked by a receive. It panics as the runtime does
+/// whose tasks the thread runs.
+///
+/// No part of what this crate promises: it is for the package that stands for tokio.
+#[doc(hidden)]
+pub fn set_blocking_check(check: fn()) {
+    let _ = CHECK.set(check);
+}
+
+/// Panics if the current thread runs the tasks of a runtime that is known, since it would block
+/// all of them.
+pub(crate) fn check_blocking() {
+    if let Some(check) = CHECK.get() {
+        check();
+    }
 }
 
 /// While this is alive, its thread is blocked on a future. It is dropped also if the future panics.

@@ -75,11 +75,27 @@ use crate::channels::backend::{OpenFault, Spec};
 use crate::channels::channel::{ChannelState, RecordedChannel, TypedChannel, call_site};
 use crate::channels::guarded_by::GuardedBy;
 use crate::channels::handle::ChannelHandle;
+use crate::channels::of_version::is_there;
 use std::mem::MaybeUninit;
+use std::sync::Once;
 use values::Values;
 
-/// The greatest capacity.
+/// How many values a channel retains at most.
 pub(crate) const MOST_CAPACITY: usize = 65_536;
+
+/// What tokio's panics say of a capacity, in the version of this build: a test may expect them by
+/// `should_panic`.
+const NO_CAPACITY: &str = if HAS_NEW_WORDS {
+    "broadcast channel capacity cannot be zero"
+} else {
+    "capacity is empty"
+};
+const TOO_GREAT_A_CAPACITY: &str = if HAS_NEW_WORDS {
+    "broadcast channel capacity exceeded `usize::MAX / 2`"
+} else {
+    "requested capacity too large"
+};
+const HAS_NEW_WORDS: bool = is_there("broadcast::channel's words of a capacity");
 
 /// What each sender, weak sender and receiver is.
 type BroadcastHandle<T> = ChannelHandle<T, GuardedBy<ChannelState, Values<T>>>;
@@ -92,8 +108,10 @@ type BroadcastHandle<T> = ChannelHandle<T, GuardedBy<ChannelState, Values<T>>>;
 ///
 /// # Panics
 ///
-/// Panics if the capacity is 0 or greater than 65,536. Unlike tokio, whose limit is half of
-/// `usize::MAX`.
+/// Panics if the capacity is 0 or greater than half of `usize::MAX`, as in tokio.
+///
+/// Unlike tokio, a channel retains 65,536 values at most. Where it asks for more, a line on
+/// standard error says so, and a receiver that is further behind lags.
 ///
 /// # Examples
 ///
@@ -113,13 +131,28 @@ pub fn channel<T: Clone>(capacity: usize) -> (Sender<T>, Receiver<T>) {
     open(capacity)
 }
 
+/// Says once that a channel retains fewer values than it asks for. A test may run all the same: few
+/// programs let receivers be as far behind.
+#[cold]
+fn say_that_fewer_are_retained(capacity: usize) {
+    static IS_SAID: Once = Once::new();
+    IS_SAID.call_once(|| {
+        eprintln!(
+            "yovanelum: a broadcast asks for a capacity of {capacity}, and retains 65536 values; a receiver that is further behind lags, and tokio's would not"
+        );
+    });
+}
+
 #[track_caller]
 fn open<T>(capacity: usize) -> (Sender<T>, Receiver<T>) {
-    assert!(capacity > 0, "a broadcast has a capacity of 1 or more");
-    assert!(
-        capacity <= MOST_CAPACITY,
-        "yovanelum: a broadcast has a capacity of 65536 at most"
-    );
+    assert!(capacity > 0, "{}", NO_CAPACITY);
+    assert!(capacity <= usize::MAX >> 1, "{}", TOO_GREAT_A_CAPACITY);
+    let capacity = if capacity > MOST_CAPACITY {
+        say_that_fewer_are_retained(capacity);
+        MOST_CAPACITY
+    } else {
+        capacity
+    };
     let spec = Spec::Broadcast(capacity as u32);
     let recorded = match RecordedChannel::open(spec, 0, call_site()) {
         Ok(recorded) => recorded,

@@ -6,6 +6,7 @@ mod at_gate;
 mod call_times;
 mod chunk_size;
 mod core_channel;
+mod counts;
 mod kept;
 mod known;
 mod last_calls;
@@ -14,7 +15,6 @@ mod locations;
 mod locked;
 mod machine;
 mod made_handles;
-mod notices;
 mod numbers;
 mod paused;
 mod receivers;
@@ -24,12 +24,12 @@ mod seldom;
 mod sharing_callers;
 mod state;
 mod typed;
-mod wait_list;
 mod waits;
 mod who_waits;
 
 pub(crate) use access::Access;
-pub(crate) use core_channel::{Call, CoreChannel, Send};
+pub(crate) use core_channel::{Call, CoreChannel, DropStep, Send};
+pub(crate) use counts::HandleCounts;
 pub(crate) use kept::{KeptChannel, NotedChannel};
 pub(crate) use known::{Known, KnownReceiver};
 pub(crate) use last_calls::SendMade;
@@ -58,6 +58,8 @@ use std::sync::Arc;
 pub struct RecordedChannel {
     pub(crate) recorder: RecordedBy,
     pub(crate) state: Arc<ChannelLock<ChannelState>>,
+    // How many handles are alive, for who doesn't lock the channel.
+    pub(crate) counts: HandleCounts,
     // Where its calls wait for their turns, in a replay or a run that is explored.
     pub(crate) ordered: Option<OrderedChannel>,
     // Among all channels of the process, until the last sender or receiver is dropped.
@@ -97,6 +99,7 @@ impl RecordedChannel {
             _registered: Registered::add(&state, recorder.as_ref()),
             recorder: RecordedBy(recorder),
             state,
+            counts: HandleCounts::opened(),
             ordered: ordered.filter(|_| is_added),
         })
     }

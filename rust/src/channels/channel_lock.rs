@@ -5,6 +5,7 @@
 use super::lock::{Lockable, lock};
 use std::cell::UnsafeCell;
 use std::hint::spin_loop;
+use std::marker::PhantomData;
 use std::ops::{Deref, DerefMut};
 use std::sync::atomic::{AtomicU32, Ordering};
 use std::sync::{Condvar, Mutex, PoisonError};
@@ -60,12 +61,12 @@ impl<T> ChannelLock<T> {
         if self.word.fetch_or(HELD, Ordering::Acquire) & HELD != 0 {
             self.wait();
         }
-        ChannelGuard(self)
+        ChannelGuard::of(self)
     }
 
     /// Acquires the lock, unless another thread, or this one, holds it.
     pub(crate) fn try_lock(&self) -> Option<ChannelGuard<'_, T>> {
-        self.acquires().then_some(ChannelGuard(self))
+        self.acquires().then_some(ChannelGuard::of(self))
     }
 
     #[inline(always)]
@@ -122,7 +123,16 @@ impl<T> Lockable for ChannelLock<T> {
 }
 
 /// The value of a lock that is held. It is released when this is dropped.
-pub(crate) struct ChannelGuard<'a, T>(&'a ChannelLock<T>);
+///
+/// Threads may share it only where they may share the value, as if this borrowed that alone.
+pub(crate) struct ChannelGuard<'a, T>(&'a ChannelLock<T>, PhantomData<&'a mut T>);
+
+impl<'a, T> ChannelGuard<'a, T> {
+    #[inline(always)]
+    fn of(lock: &'a ChannelLock<T>) -> ChannelGuard<'a, T> {
+        ChannelGuard(lock, PhantomData)
+    }
+}
 
 impl<T> Deref for ChannelGuard<'_, T> {
     type Target = T;
@@ -157,6 +167,21 @@ mod tests {
     use std::panic::{AssertUnwindSafe, catch_unwind};
     use std::sync::Barrier;
     use std::thread;
+
+    /// Compiles only where the guard of a value that no two threads may share isn't shared either:
+    /// else both implementations fit.
+    #[test]
+    fn a_guard_is_shared_only_where_its_value_may_be() {
+        trait IsNotShared<Which> {
+            const HOLDS: bool = true;
+        }
+        struct IfShared;
+        impl<T> IsNotShared<()> for T {}
+        impl<T: Sync> IsNotShared<IfShared> for T {}
+        const { assert!(<ChannelGuard<'static, std::cell::Cell<u32>> as IsNotShared<_>>::HOLDS) };
+        fn is_shared<T: Sync>() {}
+        is_shared::<ChannelGuard<'static, u32>>();
+    }
 
     #[test]
     #[cfg_attr(target_family = "wasm", ignore = "WebAssembly has no threads")]

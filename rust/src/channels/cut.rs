@@ -10,9 +10,25 @@ pub(crate) fn start_of(text: &str, most: usize) -> &str {
     &text[..end]
 }
 
+/// Returns a text, or of one that has more bytes than this its start, and how many it has.
+pub(crate) fn at_most(text: &str, most: usize) -> String {
+    if text.len() > most {
+        format!("{}… ({} bytes)", start_of(text, most), text.len())
+    } else {
+        text.to_string()
+    }
+}
+
 #[cfg(test)]
 mod tests {
     use super::*;
+
+    #[test]
+    fn a_text_that_is_cut_says_how_long_it_was() {
+        assert_eq!(at_most("price: 101", 5), "price… (10 bytes)");
+        assert_eq!(at_most("é🦀", 0), "… (6 bytes)");
+        assert_eq!(at_most("é🦀", 6), "é🦀");
+    }
 
     #[test]
     fn a_text_is_cut_between_characters() {

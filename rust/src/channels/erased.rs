@@ -4,9 +4,10 @@
 
 #[cfg(feature = "debug_values")]
 mod any_debug;
+mod shown;
 
-use crate::run::listed::PushAll;
-use crate::run::sorting::sort_by_key;
+use crate::channels::cut::at_most;
+pub(crate) use shown::is_showing;
 use std::any::{self, Any, TypeId};
 use std::error::Error;
 use std::fmt::{self, Debug};
@@ -15,6 +16,11 @@ use std::mem;
 use std::rc::Rc;
 use std::sync::{Arc, OnceLock};
 use std::time::Duration;
+use yovanelum_record::listed::PushAll;
+use yovanelum_record::sorting::sort_by_key;
+
+/// How many bytes the text of a text has at most.
+const TEXT_BYTES: usize = 4096;
 
 /// A value as one of any type. It says which, where no lifetime is in the type.
 trait Erased {
@@ -33,13 +39,15 @@ impl<T> Erased for T {
 }
 
 /// Gives a value to a function that may read it, as if all lifetimes in its type were `'static`.
-/// The function keeps nothing of it: what it returns is its own.
-fn read<T, R: 'static>(value: &T, read: impl FnOnce(&dyn Any) -> R) -> R {
+///
+/// # Safety
+///
+/// The function keeps nothing of the value, and returns nothing of it: a `&'static str` that it
+/// finds may be freed later.
+unsafe fn read<T, R>(value: &T, read: impl FnOnce(&dyn Any) -> R) -> R {
     let erased: &dyn Erased = value;
     // SAFETY: both types are the same but for a lifetime, which no layout and no table of functions
-    // depends on. What the reference is read as is a type of the lists below, by its `TypeId`.
-    // Where one has a lifetime, as `&str` has, it is shorter than the value is borrowed here, and
-    // the only code that sees it as `'static` writes its text. So none is kept.
+    // depends on. The caller says that nothing is kept for longer than the value is borrowed here.
     let erased: &(dyn Erased + 'static) =
         unsafe { mem::transmute::<&dyn Erased, &(dyn Erased + 'static)>(erased) };
     read(erased.as_any())
@@ -49,6 +57,7 @@ fn read<T, R: 'static>(value: &T, read: impl FnOnce(&dyn Any) -> R) -> R {
 enum KnownValue<'a> {
     Value(&'a dyn Debug),
     Pair(&'a dyn Debug, &'a dyn Debug),
+    List(&'a dyn shown::List),
     /// The text of a text is itself: a report has it in quotation marks.
     Text(&'a str),
 }
@@ -56,9 +65,10 @@ enum KnownValue<'a> {
 impl KnownValue<'_> {
     fn text(self) -> String {
         match self {
-            KnownValue::Value(value) => format!("{value:?}"),
-            KnownValue::Pair(one, other) => format!("({one:?}, {other:?})"),
-            KnownValue::Text(text) => text.to_string(),
+            KnownValue::Value(value) => shown::start(format_args!("{value:?}")),
+            KnownValue::Pair(one, other) => shown::start(format_args!("({one:?}, {other:?})")),
+            KnownValue::List(list) => list.start(),
+            KnownValue::Text(text) => at_most(text, TEXT_BYTES),
         }
     }
 }
@@ -71,11 +81,18 @@ type Reader = fn(&dyn Any) -> Option<KnownValue<'_>>;
 macro_rules! family {
     ($one:ident: $($whole:ty)*; $($other:ty)*) => {
         fn add_family<$one: Debug + 'static>(known: &mut KnownTypes) {
-            let ids = [$(TypeId::of::<$whole>(),)* $(TypeId::of::<($one, $other)>()),*];
+            let ids = [
+                TypeId::of::<Vec<$one>>(),
+                $(TypeId::of::<$whole>(),)*
+                $(TypeId::of::<($one, $other)>()),*
+            ];
             add(known, &ids, read_family::<$one>);
         }
 
         fn read_family<$one: Debug + 'static>(value: &dyn Any) -> Option<KnownValue<'_>> {
+            if let Some(list) = value.downcast_ref::<Vec<$one>>() {
+                return Some(KnownValue::List(list));
+            }
             $(if let Some(value) = value.downcast_ref::<$whole>() {
                 return Some(KnownValue::Value(value));
             })*
@@ -87,7 +104,7 @@ macro_rules! family {
     };
 }
 
-family! { T: T Option<T> Vec<T> Arc<T>; u32 u64 usize i32 bool f64 String &'static str }
+family! { T: T Option<T> Arc<T>; u32 u64 usize i32 bool f64 String &'static str }
 
 macro_rules! texts {
     ($($text:ty)*) => {
@@ -138,15 +155,38 @@ fn reader_of(id: TypeId) -> Option<Reader> {
     (*of_type == id).then_some(*reader)
 }
 
-/// Returns the text of a value, if its type is one of those that are known by themselves.
+/// Returns the text of a value, if its type is one of those that are known by themselves. Nothing
+/// of the channel may be locked: where all types have texts, user code runs.
 pub(crate) fn text_of<T>(value: &T) -> Option<String> {
-    let text = read(value, |value| {
-        let reader = reader_of(value.type_id())?;
-        Some(reader(value)?.text())
-    });
+    let text = known_text_of(value);
     #[cfg(feature = "debug_values")]
     let text = text.or_else(|| any_debug::text_of(value));
     text
+}
+
+/// Returns the text of a value whose type is known. No user code runs.
+pub(crate) fn known_text_of<T>(value: &T) -> Option<String> {
+    let read_text = |value: &dyn Any| {
+        let reader = reader_of(value.type_id())?;
+        Some(reader(value)?.text())
+    };
+    // SAFETY: it writes a text, and keeps no more than that.
+    unsafe { read(value, read_text) }
+}
+
+/// What makes the text of a value that was cloned, once nothing is locked.
+pub(crate) type LaterText<'a> = Box<dyn FnOnce() -> Option<String> + 'a>;
+
+/// Clones a value whose type isn't known and which is locked, for its text.
+#[cfg(feature = "debug_values")]
+pub(crate) fn later_text_of<'a, T: 'a>(value: &T) -> Option<LaterText<'a>> {
+    any_debug::later_text_of(value)
+}
+
+/// Types that aren't known have no texts in this build.
+#[cfg(not(feature = "debug_values"))]
+pub(crate) fn later_text_of<'a, T: 'a>(_value: &T) -> Option<LaterText<'a>> {
+    None
 }
 
 /// Returns what a test prints of the error that it returns, if this is an `Err`. Of an error whose
@@ -168,7 +208,7 @@ fn is_err<T>(output: &T) -> bool {
 }
 
 fn known_error_in<T>(output: &T) -> Option<String> {
-    read(output, |output| {
+    let read_text = |output: &dyn Any| {
         let errors = [
             error_of::<Box<dyn Error>>(output),
             error_of::<Box<dyn Error + Send>>(output),
@@ -185,7 +225,9 @@ fn known_error_in<T>(output: &T) -> Option<String> {
         ];
         let error = errors.iter().find_map(|error| *error)?;
         Some(format!("{error:?}"))
-    })
+    };
+    // SAFETY: it writes a text, and keeps no more than that.
+    unsafe { read(output, read_text) }
 }
 
 fn error_of<E: Debug + 'static>(output: &dyn Any) -> Option<&dyn Debug> {
@@ -214,6 +256,18 @@ mod tests {
         assert_eq!(text_of(&Own), None);
         assert_eq!(text_of(&Some(Own)), None);
         assert_eq!(text_of(&&7_u8), None);
+    }
+
+    #[test]
+    fn a_large_value_is_formatted_up_to_a_limit() {
+        let large = text_of(&vec![7_u8; 1 << 20]).unwrap();
+        assert!(large.starts_with("[7, 7, 7, "), "{large}");
+        assert!(large.ends_with("… (more than 256 bytes)"), "{large}");
+        let text = "x".repeat(5000);
+        assert_eq!(
+            text_of(&text),
+            Some(format!("{}… (5000 bytes)", "x".repeat(4096)))
+        );
     }
 
     #[test]

@@ -2,20 +2,21 @@
 
 use crate::channels::budget;
 use crate::channels::channel::{
-    Access, Call, CallSite, CoreChannel, LockedChannel, NO_SLOT, RecordedChannel, Slot,
+    Access, Call, CallSite, CoreChannel, DropStep, LockedChannel, NO_SLOT, RecordedChannel, Slot,
     TypedChannel, call_site,
 };
 use crate::channels::lock::lock;
 use crate::channels::recorder::RecordedHandle;
+use crate::channels::results::ReplyResult;
 use crate::channels::wait::{ComingCall, Method, Pending, PolledCall, WaitFor};
-pub(crate) use crate::run::operation::Kind;
-use crate::run::operation::Operation;
-use crate::run::reply::Reply;
 use std::future::poll_fn;
 use std::mem;
 use std::panic::{RefUnwindSafe, UnwindSafe};
 use std::sync::Arc;
 use std::task::{Context, Poll};
+pub(crate) use yovanelum_record::operation::Kind;
+use yovanelum_record::operation::Operation;
+use yovanelum_record::reply::Reply;
 
 /// A sender, weak sender or receiver: its channel, its number in that channel, and its kind. The
 /// public types wrap it, and make the call that drops it.
@@ -70,10 +71,27 @@ impl<T, S> ChannelHandle<T, S> {
 
     /// Creates a handle of the same channel, by this call.
     #[track_caller]
-    #[inline]
+    #[cfg_attr(not(debug_assertions), inline(always))]
     pub(crate) fn create(&self, kind: Kind, word: Operation, call: Call) -> Self {
-        let (reply, slot) = self.lock(word, call_site()).create(kind, call);
-        self.sibling(reply.new_handle(), slot)
+        self.create_with(kind, word, call, || ()).0
+    }
+
+    /// As [`create`](ChannelHandle::create). Also returns what is said of the channel while it is
+    /// still locked.
+    #[track_caller]
+    #[cfg_attr(not(debug_assertions), inline(always))]
+    pub(crate) fn create_with<R>(
+        &self,
+        kind: Kind,
+        word: Operation,
+        call: Call,
+        said: impl FnOnce() -> R,
+    ) -> (Self, R) {
+        let mut channel = self.lock(word, call_site());
+        let (reply, slot) = channel.create(kind, call);
+        let said = said();
+        channel.unlock();
+        (self.sibling(reply.new_handle(), slot), said)
     }
 
     pub(crate) fn same_channel(&self, other: &Self) -> bool {
@@ -177,16 +195,35 @@ impl<T, S> ChannelHandle<T, S> {
         reply.count()
     }
 
-    /// Reads a count from the core, which leaves no entry.
-    pub(crate) fn count(&self, count: impl FnOnce(&mut CoreChannel) -> u64) -> usize {
-        count(&mut lock(&self.recorded().state).core) as usize
+    /// As [`ask_count`](ChannelHandle::ask_count), of how many handles of a kind are alive.
+    #[track_caller]
+    #[inline]
+    pub(crate) fn ask_alive(&self, kind: Kind, word: Operation, call: Call) -> usize {
+        let recorded = self.recorded();
+        if recorded.recorder.0.is_none() || recorded.is_quiet(self.number, word, call_site()) {
+            return self.alive(kind);
+        }
+        self.call(word, call).count()
+    }
+
+    /// How many handles of a kind are alive, by no call that leaves an entry.
+    #[inline]
+    pub(crate) fn alive(&self, kind: Kind) -> usize {
+        self.recorded().counts.of(kind)
     }
 
     /// Makes the call that drops this handle, and wakes those who wait for it. Drops are called by
     /// the compiler, so it has no location in the source.
-    pub(crate) fn drop_by(&self, call: Call) {
+    pub(crate) fn drop_by(&self, by: (Call, DropStep)) {
+        self.drop_with(by, || ());
+    }
+
+    /// As [`drop_by`](ChannelHandle::drop_by). What is noted is while the channel is still locked.
+    #[inline]
+    pub(crate) fn drop_with(&self, by: (Call, DropStep), note: impl FnOnce()) {
         let mut channel = self.lock(Operation::Drop, None);
-        let (mut wakers, _event) = channel.drop_handle(self.kind(), self.slot, call);
+        let (mut wakers, _event) = channel.drop_handle(self.kind(), self.slot, by);
+        note();
         channel.unlock();
         wakers.wake();
     }

@@ -10,10 +10,10 @@ use crate::channels::handle::Kind;
 use crate::channels::lock::lock;
 use crate::channels::recorder::{Handle, Recorder};
 use crate::channels::wait::Awaited;
-use crate::run::listed::{IntoList, Keep, PushAll};
-use crate::run::sorting::sort_by_key;
 use std::panic::Location;
 use std::time::{Duration, SystemTime, UNIX_EPOCH};
+use yovanelum_record::listed::{IntoList, Keep, PushAll};
+use yovanelum_record::sorting::sort_by_key;
 
 /// Channels as they are at one moment, recorded or not: how much was sent, and how far each
 /// receiver is.

@@ -7,12 +7,12 @@ use crate::channels::channel::CallSite;
 use crate::channels::recorder::NotedPanic;
 use crate::channels::timers::Timers;
 use crate::channels::whereabouts::PlaceNumber;
-use crate::run::operation::Operation;
-use crate::run::sidecar::Maker;
 use std::mem;
 use std::sync::atomic::{AtomicBool, Ordering};
 use std::sync::{Arc, OnceLock};
 use std::task::{Context, Poll};
+use yovanelum_record::operation::Operation;
+use yovanelum_record::sidecar::Maker;
 
 /// A call that comes to a gate: on which channel of the journal, by which handle, what, and who
 /// calls.
@@ -274,8 +274,19 @@ pub(crate) trait Tasks: Send + Sync {
     /// named future goes with that one.
     fn hold(&self, task: &mut Option<Arc<str>>, name: &str, context: &Context<'_>) -> bool;
 
-    /// Notes where this task waits, behind a poll of it.
-    fn waits(&self, task: &Arc<str>, at: PlaceNumber);
+    /// The same of a future with a name, which may be all that a thread blocks on.
+    fn hold_named(&self, future: &mut Option<Arc<str>>, name: &str, context: &Context<'_>) -> bool;
+
+    /// Whether the poll of a future on which this thread blocks is held back. It goes with those
+    /// tasks that it polls itself, as one of a `LocalSet`, and with its future that has a name.
+    fn hold_thread(&self, context: &Context<'_>) -> bool;
+
+    /// Blocks this thread until a function goes on that is given to it, which is the task with this
+    /// name. `task` is its own, and has its name from here on.
+    fn begin_blocking(&self, task: &mut Option<Arc<str>>, name: &str);
+
+    /// Notes where this task waits, behind a poll of it, or what this thread blocks on.
+    fn waits(&self, task: Option<&Arc<str>>, at: PlaceNumber);
 
     /// Leaves the gate, since this task is dropped. Its drop makes its calls under its name.
     fn leave(&self, task: &Arc<str>);

@@ -10,29 +10,27 @@ use crate::channels::handle::Kind;
 use crate::channels::lock::lock;
 use crate::channels::turns::{Permit, Ticket};
 use crate::channels::whereabouts::waker_of_call;
-pub(crate) use crate::core::source::rw_waiting::WaitFor;
-use crate::run::operation::Operation;
 use std::task::{Context, Poll, Waker};
 use std::time::{Duration, Instant};
+pub(crate) use yovanelum_core::source::rw_waiting::WaitFor;
+use yovanelum_record::operation::Operation;
 
 /// The ticket of a call among those that are woken. Of two that wait for the same, the one that
 /// began first has the lower ticket.
 pub(crate) type WaitTicket = u64;
 
-impl WaitFor {
-    /// The kind of the handles that wait for this.
-    fn kind(self) -> Kind {
-        match self {
-            WaitFor::Value => Kind::Receiver,
-            WaitFor::NoReceiver => Kind::Sender,
-        }
+/// The kind of the handles that wait for this.
+fn kind_of(wait_for: WaitFor) -> Kind {
+    match wait_for {
+        WaitFor::Value => Kind::Receiver,
+        WaitFor::NoReceiver => Kind::Sender,
     }
+}
 
-    fn awaited(self) -> Awaited {
-        match self {
-            WaitFor::Value => Awaited::Value,
-            WaitFor::NoReceiver => Awaited::NoReceiver,
-        }
+fn awaited_of(wait_for: WaitFor) -> Awaited {
+    match wait_for {
+        WaitFor::Value => Awaited::Value,
+        WaitFor::NoReceiver => Awaited::NoReceiver,
     }
 }
 
@@ -250,8 +248,8 @@ impl<'a> PolledCall<'a> {
 impl PolledCall<'_> {
     /// Lists the call among those that wait since this time of the clock, unless it is there.
     fn list(&mut self, channel: &mut LockedChannel<'_>, since: u64) -> ListedCall {
-        let (kind, slot) = (self.wait_for.kind(), self.slot);
-        let (awaited, method) = (self.wait_for.awaited(), self.method);
+        let (kind, slot) = (kind_of(self.wait_for), self.slot);
+        let (awaited, method) = (awaited_of(self.wait_for), self.method);
         let listed = &mut self.pending.listed;
         *listed.get_or_insert_with(|| channel.list_wait((kind, slot), awaited, method, since))
     }
@@ -315,3 +313,6 @@ impl Drop for ComingCall<'_> {
         self.channel.leave_gate(&mut self.ticket);
     }
 }
+
+#[cfg(test)]
+mod model;

@@ -55,7 +55,9 @@ pub mod error;
 mod looks;
 mod receiver;
 mod sender;
+mod shown;
 mod value;
+mod version;
 
 pub use borrowed::Ref;
 pub use receiver::Receiver;
@@ -63,16 +65,16 @@ pub use sender::Sender;
 
 use crate::channels::backend::Spec;
 use crate::channels::channel::{
-    Access, CoreChannel, LockedChannel, RecordedChannel, Slot, TypedChannel, call_site,
+    Access, CoreChannel, LockedChannel, RecordedChannel, TypedChannel, call_site,
 };
 use crate::channels::handle::{ChannelHandle, Kind};
 use crate::channels::lock::lock;
 use crate::channels::recorder::TextOf;
-use crate::channels::wait::{BlockedCall, Method, WaitFor};
-use crate::run::operation::Operation;
+use crate::channels::wait::{BlockedCall, Method};
 use std::sync::{RwLockReadGuard, RwLockWriteGuard};
-use std::task::Poll;
 use value::ValueLock;
+use version::SeenVersion;
+use yovanelum_record::operation::Operation;
 
 /// What each sender and receiver is.
 type WatchHandle<T> = ChannelHandle<T, ValueLock<T>>;
@@ -106,7 +108,12 @@ pub fn channel<T>(init: T) -> (Sender<T>, Receiver<T>) {
         show_first(&channel);
     }
     let (sender, receiver) = ChannelHandle::first_two(channel);
-    (Sender { handle: sender }, Receiver { handle: receiver })
+    let seen = SeenVersion::default();
+    let receiver = Receiver {
+        handle: receiver,
+        seen,
+    };
+    (Sender { handle: sender }, receiver)
 }
 
 /// Gives the value that a channel is created with its text.
@@ -118,32 +125,35 @@ fn show_first<T>(channel: &TypedChannel<T, ValueLock<T>>) {
     }
 }
 
-fn attempt_changed(
-    channel: &mut LockedChannel<'_>,
-    slot: Slot,
-) -> Poll<Result<(), error::RecvError>> {
-    let changed = channel.call(CoreChannel::watch_changed).changed();
-    if let Poll::Ready(Ok(())) = changed {
-        channel.note_receive(slot);
-    }
-    changed
-}
-
 impl<T> WatchHandle<T> {
-    /// Returns a reference to the value, without marking the value as seen.
+    /// Returns a reference to the value, without marking the value as seen. A receiver says what it
+    /// has seen.
     #[track_caller]
-    fn borrow(&self) -> Ref<'_, T> {
+    #[inline]
+    fn borrow(&self, seen: Option<&SeenVersion>) -> Ref<'_, T> {
         let method = Method::called("borrow");
+        if self.recorded().recorder.0.is_some() {
+            return self.borrow_recorded(&method);
+        }
+        // No sender changes the version while the value is locked.
+        let inner = self.read_value(&method);
+        let version = &self.channel.values.version;
+        let has_changed = seen.is_some_and(|seen| version.is_unseen_by(seen));
+        Ref {
+            _look: None,
+            inner,
+            has_changed,
+        }
+    }
+
+    /// As [`borrow`](WatchHandle::borrow), where there is a recorder.
+    fn borrow_recorded(&self, method: &Method) -> Ref<'_, T> {
         let recorded = self.recorded();
         if recorded.is_quiet(self.number, Operation::Borrow, method.called_at) {
-            // Without a recorder it has code of its own.
-            match self.unordered() {
-                Access { recorder: None, .. } => self.look(Access::UNRECORDED, &method),
-                access => self.look(access, &method),
-            }
+            self.look(self.unordered(), method)
         } else {
             let access = self.pass(Operation::Borrow, method.called_at);
-            self.borrow_by(access, &method, |channel| {
+            self.borrow_by(access, method, |channel| {
                 let has_changed = self.has_changed(channel);
                 channel.call(CoreChannel::watch_borrow);
                 has_changed
@@ -227,15 +237,6 @@ impl<T> WatchHandle<T> {
     /// Returns `true` if this is a receiver that has yet to see the value.
     fn has_changed(&self, channel: &mut LockedChannel<'_>) -> bool {
         self.kind() == Kind::Receiver && !channel.has_seen()
-    }
-
-    /// Waits for this method until there is a value that this receiver has not seen, and marks it
-    /// as seen.
-    async fn changed(&self, method: Method) -> Result<(), error::RecvError> {
-        self.wait(WaitFor::Value, Operation::Changed, method, |channel| {
-            attempt_changed(channel, self.slot)
-        })
-        .await
     }
 
     fn set_text_of(&self, text_of: TextOf<T>) {

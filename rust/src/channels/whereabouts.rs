@@ -15,19 +15,18 @@ mod task;
 mod tests;
 mod waker;
 
-use crate::run::listed::IntoList;
-use crate::run::numbered::NumberMap;
+pub(crate) use frames::{StackStart, address_of};
 pub(crate) use places::{KeptPlace, PlaceNumber, current_place, kept_place};
 pub(crate) use task::{PollNoted, TaskNoted, WokenFrom};
 pub(crate) use waker::{renews, waker_of_call};
+use yovanelum_record::listed::IntoList;
+use yovanelum_record::numbered::NumberMap;
 
-use crate::channels::actors::{name_of_blocked, name_of_task};
+use crate::channels::actors::{BlockedPoll, name_of_blocked, name_of_task, note_wait_of_thread};
 use crate::channels::atomic::AtomicU64;
 use crate::channels::lock::lock;
 use crate::channels::recorder::{Recorder, Shared};
 use crate::channels::turns::explored;
-use crate::run::clock::now;
-use crate::run::sorting::sort_by_key;
 use budget::Budget;
 use std::collections::VecDeque;
 use std::sync::atomic::{AtomicBool, AtomicUsize, Ordering};
@@ -35,6 +34,8 @@ use std::sync::{Arc, Mutex, OnceLock, PoisonError, RwLock};
 use std::task::{Context, Poll};
 use std::time::{Duration, Instant};
 use task::WatchedTask;
+use yovanelum_record::clock::now;
+use yovanelum_record::sorting::sort_by_key;
 
 /// How many tasks of a test are known. Those that ended first are forgotten for later ones.
 const MOST_TASKS: usize = 1024;
@@ -401,9 +402,14 @@ impl SeenPolls {
     ) -> Poll<T> {
         let task = self.find(name_of_blocked);
         let is_new = task.is_none();
+        let within = BlockedPoll::enter();
         let (polled, task) = waker::poll(task, context, poll);
+        drop(within);
         if let Some(task) = task.filter(|_| is_new) {
             self.0 = Seeing::Task(task);
+        }
+        if polled.is_pending() {
+            note_wait_of_thread(self);
         }
         polled
     }

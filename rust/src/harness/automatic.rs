@@ -24,13 +24,14 @@ use crate::channels::recorder::{
 };
 use crate::channels::turns::explored;
 use crate::harness::program::Program;
-use crate::run::listed::IntoList;
+use crate::schedule::explore::is_run_asked_for;
 use std::any::Any;
 use std::cell::Cell;
 use std::panic::Location;
 use std::sync::OnceLock;
 use std::time::{Duration, SystemTime};
 use std::{env, fs, thread};
+use yovanelum_record::listed::IntoList;
 
 /// The variable that the command sets for the tests that it runs.
 const COMMAND: &str = "YOVANELUM_COMMAND";
@@ -148,7 +149,8 @@ fn begin() {
     give_to_tests(&OfCommand);
     let test = test_of_this_thread();
     // The order of a replay, and the one that is explored, begin with the first task.
-    if let Some(test) = test.filter(|_| is_set(REPLAY) || is_set(RUNS) || explored().is_some()) {
+    let is_ordered = || is_set(REPLAY) || is_set(RUNS) || is_run_asked_for();
+    if let Some(test) = test.filter(|_| explored().is_some() || is_ordered()) {
         test.begin();
     }
 }

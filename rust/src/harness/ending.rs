@@ -3,6 +3,7 @@
 
 use super::automatic;
 use super::files::{self, file_name};
+use super::reader::{self, NoReport};
 use super::replay_line;
 use super::replaying::REPLAYED;
 use super::saved::{RunSoFar, Saved};
@@ -10,22 +11,18 @@ use super::test_run::TestRun;
 use crate::channels::lock::{lock, try_lock_for};
 use crate::channels::recorder::{PATIENCE, Shared};
 use crate::channels::turns::explored;
-use crate::run::journal::said;
-use crate::run::report::{self, Report, at_call, page};
-use crate::run::sidecar::Sidecar;
 use crate::schedule::explore;
-use std::fs;
-use std::io;
+use std::io::{self, IsTerminal};
 use std::path::{Path, PathBuf};
 use std::sync::Mutex;
+use yovanelum_record::journal::said;
+use yovanelum_record::look::{address, at_call, has_colours};
+use yovanelum_record::question::ReportOptions;
+use yovanelum_record::sidecar::Sidecar;
 
 /// Locked while the files of a test are written. A watchdog may write those of a test that fails at
 /// the same time.
 pub(super) static WRITING: Mutex<()> = Mutex::new(());
-
-/// The page, which comes with the sources of this crate. It isn't part of the program, which would
-/// get a third of a megabyte larger.
-const PAGE: &str = concat!(env!("CARGO_MANIFEST_DIR"), "/built/yovanelum.html");
 
 impl TestRun {
     /// Writes the files of this test, and prints the report. What can't be written is said in one
@@ -89,28 +86,50 @@ impl TestRun {
         };
         names.matching.has_failed = has_failed;
         names.order.replay = recorder.left_replay(&run, &names);
-        let report = match Report::on(&run, &names) {
+        let options = options(&path, io::stderr().is_terminal());
+        let report = match reader::report(&run, &journal, &names, options) {
             Ok(report) => report,
-            Err(fault) => {
+            Err(NoReport::Run(fault)) => {
                 return format!("yovanelum: {}: {}\n", path.display(), said(fault));
             }
+            Err(why) => return self.without_report(&path, (&journal, &names), &why),
         };
-        names.account = Some(report.account().to_json());
-        names.keep_tasks_told(&report.account().told_of_tasks);
-        let call = call.unwrap_or(report.call());
-        let (look, more) = match write((&path, self.number), &journal, &names, call) {
+        let call = call.unwrap_or(report.call);
+        let page = report.page.as_deref().map_err(String::as_str);
+        let (look, more) = match write((&path, self.number), &journal, (&report.names, page), call)
+        {
             Ok((path, look)) => {
                 let lines = self.replay_line(&path, &names) + &compare_line(&path, recorder);
-                (Some(look), lines)
+                (format!("{} {look}\n", report.look), lines)
             }
-            Err(error) => (None, not_written(&path, &error)),
+            Err(error) => (String::new(), not_written(&path, &error)),
         };
-        let has_colours = report::has_colours(&io::stderr());
-        let report = match automatic::sources_before() {
-            Some(before) => report.with_sources(before),
-            None => report,
-        };
-        format!("{}{more}", report.text(look, has_colours))
+        format!("{}{look}{more}", report.text)
+    }
+
+    /// Writes the journal and the names of this test, and returns a line that says why there is no
+    /// report.
+    fn without_report(
+        &self,
+        path: &Path,
+        (journal, names): (&str, &Sidecar),
+        why: &NoReport,
+    ) -> String {
+        let names = names.to_json();
+        let no_page = Err("no report");
+        match write((path, self.number), journal, (&names, no_page), 0) {
+            Ok((path, _)) => format!(
+                "yovanelum: no report of {}, {why}: its run is in {}, which `cargo yovanelum why {}` reads\n",
+                self.name,
+                path.display(),
+                self.name
+            ),
+            Err(error) => format!(
+                "yovanelum: no report of {}, {why}\n{}",
+                self.name,
+                not_written(path, &error)
+            ),
+        }
     }
 
     /// Returns the line that says how to make the calls again. Nobody can make those of a lead.
@@ -170,6 +189,21 @@ pub(super) fn not_written(path: &Path, error: &io::Error) -> String {
     format!("yovanelum: {} isn't written: {error}\n", path.display())
 }
 
+/// Returns what the report of a run with this journal has, where it is written to a terminal or
+/// not.
+pub(super) fn options(path: &Path, is_terminal: bool) -> ReportOptions {
+    ReportOptions {
+        file: file_name_of(path),
+        has_colours: has_colours(is_terminal),
+        sources_before: automatic::sources_before(),
+    }
+}
+
+fn file_name_of(path: &Path) -> String {
+    let name = path.file_name().unwrap_or_default();
+    name.to_string_lossy().into_owned()
+}
+
 /// Writes the journal of the test with this number, and beside it the names and the page with both
 /// inside. Returns the journal's path, which is another one beside this one where a process that
 /// runs the same test, or another test of this name, has written this one, and where to look. If
@@ -177,31 +211,21 @@ pub(super) fn not_written(path: &Path, error: &io::Error) -> String {
 pub(super) fn write(
     (path, test): (&Path, u64),
     journal: &str,
-    names: &Sidecar,
+    (names, page): (&str, Result<&[u8], &str>),
     call: u64,
 ) -> io::Result<(PathBuf, String)> {
-    let names = names.to_json();
-    let page = page_of(path, journal, &names);
     let path = files::replace(
         path,
         test,
         &[
             ("journal", Some(journal.as_bytes())),
             ("names", Some(names.as_bytes())),
-            ("html", page.as_deref().ok()),
+            ("html", page.ok()),
         ],
     )?;
     let look = match page {
-        Ok(_) => page::address(&path.with_extension("html"), call),
+        Ok(_) => address(&path.with_extension("html"), call),
         Err(error) => format!("{}, {} (no page: {error})", path.display(), at_call(call)),
     };
     Ok((path, look))
-}
-
-/// Returns the page with the run inside.
-pub(super) fn page_of(path: &Path, journal: &str, names: &str) -> Result<Vec<u8>, String> {
-    let name = path.file_name().unwrap_or_default().to_string_lossy();
-    let page = fs::read(PAGE).map_err(|error| format!("{PAGE}: {error}"))?;
-    page::with_run(&page, &name, journal.as_bytes(), names.as_bytes())
-        .ok_or_else(|| format!("{PAGE} has no element for a run"))
 }

@@ -5,10 +5,12 @@
 //! (`process.rs`). The explorer of the schedule is what chooses there. `answer.rs` says whether a
 //! run met the condition that is looked for, `shorten.rs` looks for fewer switches, `race.rs` says
 //! what they are, `exchange.rs` for the two steps that make the difference to a run of `passed.rs`,
-//! `tries.rs` runs an order again, `counts.rs` has what was tried and `covered.rs` how much of all
-//! that is, `failing_order.rs` has what failed, and `reporting.rs` reports it.
+//! `tries.rs` runs an order again, `counts.rs` has what was tried, `steps.rs` whose steps that were
+//! and `covered.rs` how much of all that is, `failing_order.rs` has what failed, `story.rs`
+//! tells it, `reporting.rs` reports it, and `budget.rs` says how long all may take.
 
 mod answer;
+mod budget;
 mod counts;
 mod covered;
 mod exchange;
@@ -23,6 +25,8 @@ mod search;
 mod session;
 mod settings;
 mod shorten;
+mod steps;
+mod story;
 mod tries;
 
 pub(super) use answer::answer;

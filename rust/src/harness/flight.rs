@@ -59,10 +59,10 @@ impl Recorder {
     /// Sets the folder for the dumps of a flight recorder, and returns what sets when they are
     /// written.
     ///
-    /// A dump is a journal `flight-TIME-PID-N.journal` with its names beside it. The folder is
-    /// created if it is not there. Both files are written under other names first, and take their
-    /// places when they are whole. On Unix, none but the user of the process may read them, nor a
-    /// folder that is created.
+    /// A dump is a journal `flight-TIME-PID-N-TRIGGER.journal` with its names beside it. The folder
+    /// is created if it is not there. Both files are written under other names first, and take
+    /// their places when they are whole. On Unix, none but the user of the process may read them,
+    /// nor a folder that is created.
     ///
     /// It has the last calls of all channels, of one moment, and at most 1,000,000 of them. A
     /// channel is locked while its calls are copied, as [`guide::flight`](crate::guide::flight)

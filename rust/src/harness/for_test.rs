@@ -272,6 +272,9 @@ impl SaveOnPanic {
 
     /// Whether the test failed, or its journal is to be saved all the same.
     fn is_wanted(&self) -> bool {
+        if explore::is_quiet() {
+            return false;
+        }
         match (thread::panicking(), self.began_in_panic) {
             (true, true) => false,
             (true, false) => true,
@@ -292,7 +295,8 @@ impl Drop for SaveOnPanic {
         let last = self.recorder.0.last();
         explore::end(&self.recorder, has_failed, likely_cause);
         let met = exploring::answer(&self.recorder.0, last);
-        if self.is_wanted() || met.is_some() && explore::is_run_of_search() {
+        let is_met = met.is_some() && explore::is_run_of_search() && !explore::is_quiet();
+        if self.is_wanted() || is_met {
             // A panic in a drop while a panic unwinds would end the process, and with it all other
             // tests.
             let call = met.filter(|_| !has_failed);

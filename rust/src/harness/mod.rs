@@ -12,6 +12,7 @@ pub mod given;
 mod nothing;
 mod panic_hook;
 pub(crate) mod program;
+mod reader;
 mod recorded;
 mod replay_line;
 mod replaying;

@@ -4,14 +4,15 @@
 use super::automatic;
 use super::flight::dump_on_panic;
 use super::test_run::TestRun;
+use crate::channels::erased::is_showing;
 use crate::channels::lock::lock;
 use crate::channels::recorder::text_of;
 use crate::harness::program::Program;
-use crate::run::listed::IntoList;
 use std::io::{self, Write};
 use std::panic::{self, PanicHookInfo};
 use std::sync::{Arc, Mutex};
 use std::{mem, thread};
+use yovanelum_record::listed::IntoList;
 
 /// The texts of the panics by which the standard library ends the process: after a second one in a
 /// drop, and in a function that can't unwind. Their place is in the standard library.
@@ -33,6 +34,10 @@ pub(super) fn install() {
     }
     let before = panic::take_hook();
     panic::set_hook(Box::new(move |info| {
+        // It is caught, and is no panic of the test.
+        if is_showing() {
+            return;
+        }
         dump_on_panic(info, is_last(info));
         automatic::see_this_thread();
         let mut ended = note(info);

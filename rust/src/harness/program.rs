@@ -12,10 +12,10 @@ mod folder;
 mod options;
 mod target;
 
-use crate::run::listed::{IntoList, PushAll};
 pub use cargo::set_patch;
 pub(crate) use cargo::{CargoRun, is_patched};
 pub(crate) use target::{Target, TargetKind};
+use yovanelum_record::listed::{IntoList, PushAll};
 
 use std::env;
 use std::path::{self, Path, PathBuf};

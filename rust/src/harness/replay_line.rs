@@ -5,10 +5,10 @@ use super::automatic;
 use super::test_run::TestRun;
 use crate::channels::recorder::REPLAY;
 use crate::harness::program::{CargoRun, Program, TargetKind};
-use crate::run::listed::{IntoList, PushAll};
 use crate::schedule::explore::FOR;
 use std::env;
 use std::path::Path;
+use yovanelum_record::listed::{IntoList, PushAll};
 
 /// Returns the line for this journal of a test.
 pub(super) fn of(journal: &Path, test: &TestRun) -> String {

@@ -6,13 +6,13 @@ use crate::channels::recorder::{REPLAY, Recorder, Shared};
 use crate::channels::standard_error::say;
 use crate::channels::turns::TestEnd;
 use crate::harness::program::Program;
-use crate::run::journal::Run;
-use crate::run::sidecar::{LeftReplay, Sidecar, TestId, test_beside};
 use crate::schedule::explore;
 use crate::schedule::replay::{self, Gate, Replayed};
 use std::path::{Path, PathBuf};
 use std::sync::{Arc, OnceLock};
 use std::{env, io};
+use yovanelum_record::journal::Run;
+use yovanelum_record::sidecar::{LeftReplay, Sidecar, TestId, test_beside};
 
 /// What the name of a file has more if a replay has written it. So no replay overwrites the journal
 /// that it reads.

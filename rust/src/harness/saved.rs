@@ -12,21 +12,21 @@ use crate::channels::channel_lock::ChannelLock;
 use crate::channels::lock::{lock, try_lock_for};
 use crate::channels::recorder::{Shared, WaitThen, Waiting, Why};
 use crate::channels::wait::{Awaited, Wait};
-use crate::core::lists::reserved;
-use crate::core::source::rw_law::NoMemory;
 use crate::harness::program::Program;
-use crate::run::by_text::TextMap;
-use crate::run::journal;
-use crate::run::listed::{IntoList, Keep, PushAll};
-use crate::run::numbered::NumberMap;
-use crate::run::sidecar::{HeldBy, Sidecar, SourceLocation, WaitingCall};
-use crate::run::sorting::sort_by_key;
 use std::panic::Location;
 use std::path::Path;
 use std::sync::Arc;
 use std::sync::atomic::{AtomicUsize, Ordering};
 use std::time::Duration;
 use std::{env, fs, io, ptr};
+use yovanelum_core::lists::reserved;
+use yovanelum_core::source::rw_law::NoMemory;
+use yovanelum_record::by_text::TextMap;
+use yovanelum_record::journal;
+use yovanelum_record::listed::{IntoList, Keep, PushAll};
+use yovanelum_record::numbered::NumberMap;
+use yovanelum_record::sidecar::{HeldBy, Sidecar, SourceLocation, WaitingCall};
+use yovanelum_record::sorting::sort_by_key;
 
 /// Which channels a recorder has.
 pub(super) const ITS_CHANNELS: &str = "those that are created on a thread that has entered it \
@@ -299,7 +299,7 @@ impl RunSoFar<'_> {
     fn add_last_drops(&self, names: &mut Sidecar) {
         let here = env::current_dir().unwrap_or_default();
         for (number, channel) in (0..).zip(&self.channels) {
-            let drops = lock(channel).seldom().last_drops.clone();
+            let drops = lock(channel).last_drops.clone();
             for (which, stack) in (0..).zip(&drops.stacks()) {
                 let frame = stack.and_then(|stack| stacks::first_own(stack, &here));
                 let Some(Frame { function, location }) = frame else {

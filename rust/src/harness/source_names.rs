@@ -4,15 +4,15 @@
 
 mod binding;
 
-use crate::core::source::rw_handles::Kind;
 use crate::harness::program::Program;
-use crate::run::by_text::TextMap;
-use crate::run::journal::Run;
-use crate::run::numbered::NumberMap;
-use crate::run::sidecar::{Sidecar, SourceLocation};
 use binding::Bound;
 use std::fs;
 use std::path::Path;
+use yovanelum_core::source::rw_handles::Kind;
+use yovanelum_record::by_text::TextMap;
+use yovanelum_record::journal::Run;
+use yovanelum_record::numbered::NumberMap;
+use yovanelum_record::sidecar::{Sidecar, SourceLocation};
 
 /// Sources that were read, by their names. `None` for one that can't be read, or that was written
 /// after the program.

@@ -7,9 +7,9 @@
 //! What tokio drops of a task, as one that was aborted, has no caller: the frames beyond are of who
 //! runs the tasks. There the function is the one whose future is dropped.
 
-use crate::run::sidecar::SourceLocation;
 use std::backtrace::Backtrace;
 use std::path::Path;
+use yovanelum_record::sidecar::SourceLocation;
 
 /// What the functions begin with that aren't the program's own.
 const OTHERS: [&str; 6] = ["yovanelum", "tokio", "core", "std", "alloc", "test"];

@@ -12,16 +12,16 @@ use crate::channels::recorder::{
     MOST_BYTES, NotedPanic, PATIENCE, Shared, TestCount, WaitThen, is_entered, next_moment,
 };
 use crate::harness::program::{Program, is_patched};
-use crate::run::by_text::TextMap;
-use crate::run::listed::{IntoList, Keep};
-use crate::run::numbered::NumberMap;
-use crate::run::sidecar::{Returned, Sidecar, SourceLocation, TestId};
 use std::backtrace::Backtrace;
 use std::fmt;
 use std::panic::{Location, PanicHookInfo};
 use std::sync::atomic::{AtomicBool, Ordering};
 use std::sync::{Arc, Mutex, Weak};
 use std::thread;
+use yovanelum_record::by_text::TextMap;
+use yovanelum_record::listed::{IntoList, Keep};
+use yovanelum_record::numbered::NumberMap;
+use yovanelum_record::sidecar::{Returned, Sidecar, SourceLocation, TestId};
 
 /// How many panics of a test are noted. Of more, the last one replaces the last.
 const MOST_PANICS: usize = 16;

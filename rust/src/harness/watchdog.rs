@@ -2,12 +2,12 @@
 
 use super::ending::{self, WRITING};
 use super::for_test::{ForTest, SaveOnPanic};
+use super::reader;
 use super::saved::Saved;
 use super::test_run::TestRun;
 use crate::channels::lock::lock;
 use crate::channels::oneshot::{self, Receiver, Sender};
 use crate::channels::recorder::Shared;
-use crate::run::report::Report;
 use crate::schedule::explore::WaitingTask;
 use std::io::{self, Write};
 use std::sync::Arc;
@@ -107,15 +107,20 @@ impl TestRun {
             waiting
                 .iter_mut()
                 .for_each(|call| call.name_channel(&names));
-            let report = Report::on(&run, &names);
-            let call = report.as_ref().map_or(0, Report::call);
-            told = report.as_ref().map(Report::told_lines).unwrap_or_default();
-            if let Ok(report) = report {
-                pending = report.pending_lines();
-                names.account = Some(report.account().to_json());
-                names.keep_tasks_told(&report.account().told_of_tasks);
+            match reader::report(&run, &journal, &names, ending::options(&path, false)) {
+                Ok(report) => {
+                    (told, pending) = (report.told, report.pending);
+                    let page = report.page.as_deref().map_err(String::as_str);
+                    let written = (&*report.names, page);
+                    ending::write((&path, self.number), &journal, written, report.call)
+                }
+                Err(why) => {
+                    pending = vec![format!("no report of {}, {why}", self.name)];
+                    let names = names.to_json();
+                    let written = (&*names, Err("no report"));
+                    ending::write((&path, self.number), &journal, written, 0)
+                }
             }
-            ending::write((&path, self.number), &journal, &names, call)
         });
         let name = &self.name;
         let mut lines = match &saved {

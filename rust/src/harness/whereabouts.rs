@@ -10,18 +10,18 @@ use crate::channels::whereabouts::{
     KeptPlace, PlaceNumber, PollNoted, TaskNoted, WokenFrom, kept_place,
 };
 use crate::harness::program::Program;
-use crate::run::listed::IntoList;
-use crate::run::numbered::{NumberMap, NumberSet};
-use crate::run::sidecar::{
-    SeenPlace, SeenPoll, SeenTask, SeenWake, Sidecar, SourceLocation, TasksSeen, WokenBy,
-    is_downloaded,
-};
 use crate::schedule::explore::NamedPlace;
 use functions::ReadSources;
 use stack::{PrintedStack, StackFrame};
 use std::backtrace::Backtrace;
 use std::env;
 use std::path::{Path, PathBuf};
+use yovanelum_record::listed::IntoList;
+use yovanelum_record::numbered::{NumberMap, NumberSet};
+use yovanelum_record::sidecar::{
+    SeenPlace, SeenPoll, SeenTask, SeenWake, Sidecar, SourceLocation, TasksSeen, WokenBy,
+    is_downloaded,
+};
 
 /// What the functions have by which a runtime wakes for its timers.
 const TIMERS: [&str; 2] = ["tokio::runtime::time::", "tokio::time::driver::"];

@@ -5,15 +5,15 @@ use super::windows::{MadeWindow, Windows};
 use crate::channels::backend::{Actor, ENTRIES_AT_MOST, LEAD, Window};
 use crate::channels::channel::{NotedChannel, WaitNow};
 use crate::channels::recorder::Why;
-use crate::core::lists::{collected, reserved};
-use crate::core::source::rw_law::NoMemory;
-use crate::run::by_text::TextMap;
-use crate::run::clock::{Moment, wall};
-use crate::run::listed::{Keep, PushAll};
-use crate::run::numbered::{NumberMap, NumberSet};
-use crate::run::sidecar::{ChannelWindow, Sidecar, WindowNames};
-use crate::run::sorting::sort_by_key;
 use std::sync::Arc;
+use yovanelum_core::lists::{collected, reserved};
+use yovanelum_core::source::rw_law::NoMemory;
+use yovanelum_record::by_text::TextMap;
+use yovanelum_record::clock::{Moment, wall};
+use yovanelum_record::listed::{Keep, PushAll};
+use yovanelum_record::numbered::{NumberMap, NumberSet};
+use yovanelum_record::sidecar::{ChannelWindow, Sidecar, WindowNames};
+use yovanelum_record::sorting::sort_by_key;
 
 /// What the actor of leads is called.
 const BEFORE: &str = "before the window";

@@ -2,12 +2,12 @@
 //! kept.
 
 use crate::channels::backend::{Cut, CutFault, ENTRIES_AT_MOST, Kept, Lead, Window, WindowFault};
-use crate::core::lists::{collected, reserved};
-use crate::core::source::rw_law::NoMemory;
-use crate::run::journal::Run;
-use crate::run::listed::IntoList;
-use crate::run::sorting::sort_by_key;
 use std::io;
+use yovanelum_core::lists::{collected, reserved};
+use yovanelum_core::source::rw_law::NoMemory;
+use yovanelum_record::journal::Run;
+use yovanelum_record::listed::IntoList;
+use yovanelum_record::sorting::sort_by_key;
 
 /// How many entries the journal of a flight recorder has at most, all channels together.
 const MOST_OF_ALL: u64 = 1_000_000;

@@ -340,13 +340,31 @@ fn handles_are_unwind_safe_for_values_of_all_types() {
 }
 
 #[test]
-#[should_panic(expected = "capacity of 1 or more")]
+#[should_panic(expected = "broadcast channel capacity cannot be zero")]
 fn a_capacity_of_nothing() {
     broadcast::channel::<u8>(0);
 }
 
 #[test]
-#[should_panic(expected = "65536")]
-fn a_capacity_beyond_the_limit() {
-    broadcast::channel::<u8>(65_537);
+#[should_panic(expected = "broadcast channel capacity exceeded `usize::MAX / 2`")]
+fn a_capacity_beyond_tokio_s_limit() {
+    broadcast::channel::<u8>(usize::MAX / 2 + 1);
+}
+
+#[test]
+fn a_capacity_beyond_what_is_retained() {
+    const RETAINED: usize = 65_536;
+    for capacity in [RETAINED + 1, 100_000, 1_000_000, usize::MAX / 2] {
+        let recorder = Recorder::new();
+        let _entered = (capacity % 2 == 0).then(|| recorder.enter());
+        let (tx, mut rx) = broadcast::channel(capacity);
+        for value in 0..=RETAINED {
+            tx.send(value).unwrap();
+        }
+        assert_eq!(rx.try_recv(), Err(TryRecvError::Lagged(1)));
+        for value in 1..=RETAINED {
+            assert_eq!(rx.try_recv(), Ok(value));
+        }
+        assert_eq!(rx.try_recv(), Err(TryRecvError::Empty));
+    }
 }

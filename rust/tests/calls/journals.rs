@@ -131,7 +131,8 @@ fn names_stand_beside_the_journal() {
     // Each call is some lines below, and drops have no line.
     let file = format!("{:?}", file!());
     let [line_1, line_2, line_11, line_12, line_15] = [1, 2, 11, 12, 15].map(|below| line + below);
-    let folder_of_sources = env!("CARGO_MANIFEST_DIR");
+    // That of the workspace, by which rustc names them.
+    let folder_of_sources = Path::new(env!("CARGO_MANIFEST_DIR")).parent().unwrap();
     let source = checksum(include_bytes!("journals.rs"));
     let journal = recorder.journal().unwrap();
     let of_journal = checksum(journal.as_bytes());

@@ -193,8 +193,13 @@ fn a_wait_for_a_value_passes_over_others() {
 #[test]
 fn texts_of_errors_and_handles() {
     let (tx, mut rx) = watch::channel(3);
-    assert_eq!(format!("{tx:?}"), "Sender { value: 3, .. }");
-    assert_eq!(format!("{rx:?}"), "Receiver { value: 3, .. }");
+    // As tokio 1.53 formats them.
+    let shared = "shared: Shared { value: RwLock(RwLock { data: 3, poisoned: false, .. }), version: Version(0), is_closed: false, ref_count_rx: 1 }";
+    assert_eq!(format!("{tx:?}"), format!("Sender {{ {shared} }}"));
+    assert_eq!(
+        format!("{rx:?}"),
+        format!("Receiver {{ {shared}, version: Version(0) }}")
+    );
     assert_eq!(
         format!("{:?}", rx.borrow()),
         "Ref { inner: 3, has_changed: false }"

@@ -4,8 +4,8 @@ use crate::support::{accepted, in_time, stamps};
 use std::collections::HashSet;
 use std::future::{Future, poll_fn};
 use std::pin::pin;
-use std::sync::Arc;
-use std::sync::atomic::{AtomicBool, Ordering};
+use std::sync::atomic::{AtomicBool, AtomicUsize, Ordering};
+use std::sync::{Arc, Mutex};
 use std::thread::{self, JoinHandle};
 use std::time::{Duration, Instant};
 use yovanelum::broadcast::{self, Receiver, error::RecvError};
@@ -278,4 +278,54 @@ fn a_thread_that_waits_is_woken_also_where_something_parks_within_the_poll() {
         }))
     });
     assert_eq!(received, Ok(7));
+}
+
+/// What looks return that take no lock: after a call has returned, as another thread knows, they
+/// see what it has done.
+#[test]
+fn looks_see_what_was_done_before() {
+    const SENT: usize = 20_000;
+    let (tx, rx) = watch::channel(0);
+    let (sent, made) = (AtomicUsize::new(0), AtomicUsize::new(0));
+    let kept = Mutex::new(Vec::new());
+    thread::scope(|scope| {
+        scope.spawn(|| {
+            for value in 1..=SENT {
+                match value % 3 {
+                    0 => tx.send(value).unwrap(),
+                    1 => tx.send_modify(|it| *it = value),
+                    _ => drop(tx.send_replace(value)),
+                }
+                sent.store(value, Ordering::Release);
+            }
+        });
+        scope.spawn(|| {
+            for count in 1..=100 {
+                kept.lock().unwrap().push(tx.subscribe());
+                made.store(count, Ordering::Release);
+            }
+        });
+        for _ in 0..2 {
+            let mut rx = rx.clone();
+            let (sent, made, tx) = (&sent, &made, &tx);
+            scope.spawn(move || {
+                let mut seen = 0;
+                while seen < SENT {
+                    let receivers = made.load(Ordering::Acquire);
+                    assert!(tx.receiver_count() >= receivers && !tx.is_closed());
+                    let before = sent.load(Ordering::Acquire);
+                    if before > seen {
+                        assert!(rx.has_changed().unwrap());
+                        assert!(rx.borrow().has_changed());
+                    }
+                    let value = rx.borrow_and_update();
+                    assert!(*value >= before);
+                    seen = *value;
+                }
+                assert!(!rx.has_changed().unwrap() && !rx.borrow().has_changed());
+            });
+        }
+    });
+    drop(tx);
+    assert!(rx.has_changed().is_err());
 }

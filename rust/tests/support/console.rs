@@ -7,8 +7,8 @@ use std::path::Path;
 use std::process::{Command, Stdio};
 use std::thread;
 
-/// The program of a checkout, which runs on Linux on x86-64.
-const BUILT: &str = concat!(env!("CARGO_MANIFEST_DIR"), "/built/x86_64-linux/ttd");
+/// The program of a checkout, in the folder `rust`. It runs on Linux on x86-64.
+const BUILT: &str = "built/x86_64-linux/ttd";
 
 /// Returns the program: the one that the variable `YOVANELUM_TTD` names, or else that of the
 /// checkout. `None` where no program can be started: on WebAssembly, and under Miri.
@@ -21,8 +21,10 @@ pub fn ttd() -> Option<OsString> {
         return None;
     }
     let is_here = cfg!(all(target_os = "linux", target_arch = "x86_64"));
-    let built = is_here.then_some(Path::new(BUILT));
-    Some(chosen(env::var_os("YOVANELUM_TTD"), built))
+    let here = Path::new(env!("CARGO_MANIFEST_DIR"));
+    let above = here.ancestors().map(|folder| folder.join(BUILT));
+    let built = above.filter(|_| is_here).find(|path| path.exists());
+    Some(chosen(env::var_os("YOVANELUM_TTD"), built.as_deref()))
 }
 
 /// The named program, or else the built one, if its file is there.

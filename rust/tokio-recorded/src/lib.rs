@@ -9,6 +9,8 @@
 pub use real_tokio::*;
 
 #[cfg(all(feature = "rt", feature = "sync"))]
+mod blocking;
+#[cfg(all(feature = "rt", feature = "sync"))]
 mod budget;
 #[cfg(all(feature = "rt", feature = "sync"))]
 mod handle;

@@ -16,6 +16,7 @@ use yovanelum::{record_tests, set_patch, set_task_id};
 pub(crate) fn tell_apart() {
     set_task_id(current);
     budget::tell();
+    yovanelum::set_blocking_check(crate::blocking::check);
     crate::points::set();
     #[cfg(feature = "time")]
     yovanelum::set_clock(crate::timers::clock);

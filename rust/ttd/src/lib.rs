@@ -4,7 +4,7 @@
 //! Rust's, and the kit's ports by the crates that they are ports of.
 
 mod ending;
-#[path = "../../src/core/large_pages.rs"]
+#[path = "../../core/src/large_pages.rs"]
 mod large_pages;
 mod refused;
 // It has what the sources call and no more.
@@ -13,7 +13,7 @@ mod refused;
 pub mod shim;
 #[doc(hidden)]
 #[rustfmt::skip]
-#[path = "../../src/core/source/program.rs"]
+#[path = "../../core/src/source/program.rs"]
 pub mod source;
 mod standard_streams;
 

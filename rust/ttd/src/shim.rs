@@ -1,6 +1,6 @@
 //! What the program `ttd` uses of Rattle's std and of the kit's ports.
 //!
-//! The library's part of the shim is in `rust/src/core/shim`, and its files are included here a
+//! The library's part of the shim is in `rust/core/src/shim`, and its files are included here a
 //! second time. Those in `shim/` are the program's alone: files, streams, words, locks and threads,
 //! over Rust's own, and thin modules over `clap`, `indexmap` and `serde_json`. `itoa` is the crate
 //! itself. All of it is safe code, written by hand. Each function names the clause of Rattle's std
@@ -42,23 +42,23 @@
 
 #![forbid(unsafe_code)]
 
-#[path = "../../src/core/shim/alloc.rs"]
+#[path = "../../core/src/shim/alloc.rs"]
 pub mod alloc;
-#[path = "../../src/core/shim/boxed.rs"]
+#[path = "../../core/src/shim/boxed.rs"]
 mod boxed;
-#[path = "../../src/core/shim/casts.rs"]
+#[path = "../../core/src/shim/casts.rs"]
 mod casts;
-#[path = "../../src/core/shim/fallible.rs"]
+#[path = "../../core/src/shim/fallible.rs"]
 pub mod fallible;
-#[path = "../../src/core/shim/memchr.rs"]
+#[path = "../../core/src/shim/memchr.rs"]
 pub mod memchr;
-#[path = "../../src/core/shim/slices.rs"]
+#[path = "../../core/src/shim/slices.rs"]
 mod slices;
-#[path = "../../src/core/shim/snapshot.rs"]
+#[path = "../../core/src/shim/snapshot.rs"]
 pub mod snapshot;
-#[path = "../../src/core/shim/string.rs"]
+#[path = "../../core/src/shim/string.rs"]
 mod string;
-#[path = "../../src/core/shim/vec.rs"]
+#[path = "../../core/src/shim/vec.rs"]
 mod vec;
 
 pub mod clap;

@@ -32,14 +32,14 @@ fn files_of(folder: PathBuf) -> Vec<PathBuf> {
 
 /// Returns the sources of the proved crates of which the program is made.
 fn proved_sources() -> Vec<String> {
-    let list = read("../src/core/source/program.rs");
+    let list = read("../core/src/source/program.rs");
     let modules = list
         .lines()
         .filter_map(|line| line.strip_prefix("pub mod "));
     modules
         .map(|module| {
             here()
-                .join("../src/core/source")
+                .join("../core/src/source")
                 .join(module.trim_end_matches(';'))
         })
         .flat_map(files_of)
@@ -62,7 +62,7 @@ fn cargo_gives_the_program_these_crates_alone() {
 
 #[test]
 fn the_lock_file_names_a_registrys_version_of_each() {
-    let lock = read("Cargo.lock");
+    let lock = read("../../Cargo.lock");
     for name in CRATES {
         let package = format!("[[package]]\nname = \"{name}\"\nversion = ");
         let (_, entry) = lock.split_once(&package).unwrap();

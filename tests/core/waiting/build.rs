@@ -100,7 +100,7 @@ impl Places {
         let here = PathBuf::from(env::var_os("CARGO_MANIFEST_DIR").unwrap());
         Places {
             out: PathBuf::from(env::var_os("OUT_DIR").unwrap()),
-            source: here.join("../../../rust/src/core/source"),
+            source: here.join("../../../rust/core/src/source"),
             here,
         }
     }

@@ -98,7 +98,12 @@ class Lane:
         self.program = f"{folder}/target-program/release/ttd"
         shutil.rmtree(self.rust, ignore_errors=True)
         os.makedirs(folder, exist_ok=True)
-        subprocess.run([f"{top}/rust/ttd/sources", f"{folder}/crates"], check=True)
+        subprocess.run([f"{top}/rust/sources", f"{folder}/crates"], check=True)
+        # The workspace that the crate is of.
+        for name in ("Cargo.toml", "Cargo.lock"):
+            shutil.copy(f"{top}/{name}", folder)
+        shutil.rmtree(f"{folder}/page", ignore_errors=True)
+        shutil.copytree(f"{top}/page/engine", f"{folder}/page/engine", ignore=shutil.ignore_patterns("target"))
         # The files are new, so that nothing stays that cargo compiled of an edit.
         shutil.copytree(f"{top}/rust", self.rust, ignore=shutil.ignore_patterns("target", "x86_64-linux", "tokio*"), copy_function=shutil.copy)
         shutil.rmtree(f"{folder}/tests", ignore_errors=True)
@@ -136,7 +141,7 @@ class Lane:
     def write(self, crate, path, text):
         """Writes the Rust of a source, and returns whether it changed."""
         made, _ = rust.rust(crate, f"crates/{crate}/{path}", text, self.crates)
-        place = f"{self.rust}/src/core/source/{layout.place_of(f'{crate}/{path}')}"
+        place = f"{self.rust}/core/src/source/{layout.place_of(f'{crate}/{path}')}"
         with open(place, encoding="utf-8") as file:
             if file.read() == made:
                 return False
@@ -148,8 +153,11 @@ class Lane:
         with open(self.program, "rb") as file:
             return hashlib.file_digest(file, "blake2b").digest()
 
+    def registry(self):
+        return f"--config={self.folder}/crates/config.toml"
+
     def build(self):
-        words = ["cargo", "build", "--release", "--locked", "-j2", f"--config={self.folder}/crates/config.toml"]
+        words = ["cargo", "build", "--release", "--locked", "-j2", self.registry()]
         return run(words, f"{self.rust}/ttd", f"{self.folder}/target-program")
 
     def reads(self, crate):
@@ -159,7 +167,7 @@ class Lane:
         return run(["cargo", "check", "--locked", "-j2", "-p", "proved"], f"{self.folder}/tests/core", f"{self.folder}/target-core")
 
     def reads_library(self):
-        return run(["cargo", "check", "--locked", "-j2", "--lib"], self.rust, self.target)
+        return run(["cargo", "check", "--locked", "-j2", "--lib", self.registry()], self.rust, self.target)
 
     def core_tests(self):
         programs = [f"--test={program}" for program in ("calls", "texts", "storms", "refusals")]
@@ -167,5 +175,5 @@ class Lane:
         return run(words, f"{self.folder}/tests/core", f"{self.folder}/target-core")
 
     def crate_tests(self):
-        runs = (["cargo", "test", "--locked", "-j2", program, "--", "--test-threads=2", *names] for program, *names in CRATE)
+        runs = (["cargo", "test", "--locked", "-j2", self.registry(), program, "--", "--test-threads=2", *names] for program, *names in CRATE)
         return all(run(words, self.rust, self.target) for words in runs)

@@ -9,11 +9,10 @@ HEAD = """{docs}
 // Many imports, names and labels are used by contracts and proofs alone, and not every function of a crate is called here.
 #![allow(dead_code, unused_imports, unused_labels, unused_variables, clippy::all)]
 
-{modules}
-"""
+{modules}"""
 LIBRARY = "//! The proved crates of which the library is made, as Rust source: each module is a crate."
 PROGRAM = "//! The proved crates of which the program `ttd` is made, as Rust source: each module is a crate."
-PAGE = "//! The proved crates of which the engine of the page is made, as Rust source: each module is a crate."
+PAGE = "//! The proved crates that the engine of the page has beside the library's, as Rust source: each module is a crate."
 
 
 def saturated_of(top):
@@ -46,7 +45,7 @@ class Crates:
                     lists[head] = names.split()
         both, library, console = (lists[name] for name in ("both", "library", "console"))
         self.library, self.program = both + library, both + console + lists["program"]
-        self.page = both + library + console + lists["page"]
+        self.page = console + lists["page"]
         self.modules = both + library + console + lists["program"] + lists["page"] + lists["tests"]
         self.tests = lists["tests"]
         self.ports = lists["ports"]
@@ -55,7 +54,7 @@ class Crates:
 
 
 def place_of(path):
-    """The Rust file, below rust/src/core/source/, of a file below crates/."""
+    """The Rust file, below rust/core/src/source/, of a file below crates/."""
     crate, _, inner = path.partition("/src/")
     inner = "mod.rs" if inner == "lib.rt" else inner.removesuffix(".rt") + ".rs"
     return f"{crate}/{inner}"
@@ -71,19 +70,19 @@ def sources_of(top, crate):
 
 def lists(crates):
     """The files that list the modules."""
-    files = {"core/source.rs": (LIBRARY, crates.library), "core/source/program.rs": (PROGRAM, crates.program), "core/source/page.rs": (PAGE, crates.page)}
-    return {path: HEAD.format(docs=docs, modules="\n".join(f"pub mod {name};" for name in names)) for path, (docs, names) in files.items()}
+    files = {"source.rs": (LIBRARY, crates.library), "source/program.rs": (PROGRAM, crates.program), "source/page.rs": (PAGE, crates.page)}
+    return {path: HEAD.format(docs=docs, modules="".join(f"pub mod {name};\n" for name in names)) for path, (docs, names) in files.items()}
 
 
 def made(top):
-    """All files of the Rust source by their paths below rust/src/, and how often each kind of change was made."""
+    """All files of the Rust source by their paths below rust/core/src/, and how often each kind of change was made."""
     crates, counts = Crates(top), {}
     files = lists(crates)
     for crate in crates.modules:
         for path in sources_of(top, crate):
             with open(f"{top}/crates/{path}", encoding="utf-8") as file:
                 text = file.read()
-            files[f"core/source/{place_of(path)}"], found = rust.rust(crate, f"crates/{path}", text, crates)
+            files[f"source/{place_of(path)}"], found = rust.rust(crate, f"crates/{path}", text, crates)
             for kind, count in found.items():
                 counts[kind] = counts.get(kind, 0) + count
     return files, counts

@@ -46,11 +46,11 @@ class Crates:
         return self.both + self.library + self.console + self.program + self.page + self.tests
 
     def modules(self):
-        """The crates of each list of modules, by the list's path below rust/src/."""
+        """The crates of each list of modules, by the list's path below rust/core/src/."""
         library = self.both + self.library
         return {
-            "core/source.rs": library, "core/source/program.rs": self.both + self.console + self.program,
-            "core/source/page.rs": library + self.console + self.page}
+            "source.rs": library, "source/program.rs": self.both + self.console + self.program,
+            "source/page.rs": self.console + self.page}
 
     def strangers(self):
         """What isn't allowed to be there: a crate that the repository doesn't prove, and a file of Rust source of no crate."""
@@ -58,9 +58,9 @@ class Crates:
         for crate in self.all():
             if crate not in proved:
                 yield f"crates.txt: {crate} isn't in it, so nothing proves it"
-        for name in sorted(files_below(f"{self.top}/rust/src/core/source", "")):
+        for name in sorted(files_below(f"{self.top}/rust/core/src/source", "")):
             if name not in ("program.rs", "page.rs") and (name.partition("/")[0] not in self.all() or not name.endswith(".rs")):
-                yield f"rust/src/core/source/{name}: it is of no crate"
+                yield f"rust/core/src/source/{name}: it is of no crate"
 
     def below(self, crate):
         """The crates that a crate may name: itself, and those before it of the library, of the program, of the page, or of the program and the tests."""
@@ -72,7 +72,7 @@ class Crates:
         """Each pair of which one file is there at least."""
         found = []
         for crate in self.all():
-            rust, source = f"{self.top}/rust/src/core/source/{crate}", f"{self.top}/crates/{crate}/src"
+            rust, source = f"{self.top}/rust/core/src/source/{crate}", f"{self.top}/crates/{crate}/src"
             names = {("lib" if name == "mod" else name) for name in files_below(rust, ".rs")} | files_below(source, ".rt")
             found += [Pair(crate, f"{rust}/{'mod' if name == 'lib' else name}.rs", f"{source}/{name}.rt") for name in sorted(names)]
         return found

@@ -69,9 +69,9 @@ def judge_casts(top, files):
 def judge_lists(top, known):
     """The faults of the lists of modules, as texts."""
     for path, modules in known.modules().items():
-        why = lists.judge(crates.read(f"{top}/rust/src/{path}"), modules) if os.path.exists(f"{top}/rust/src/{path}") else "it isn't there"
+        why = lists.judge(crates.read(f"{top}/rust/core/src/{path}"), modules) if os.path.exists(f"{top}/rust/core/src/{path}") else "it isn't there"
         if why:
-            yield f"rust/src/{path}: {why}"
+            yield f"rust/core/src/{path}: {why}"
 
 
 def judge(top):

@@ -1,4 +1,4 @@
-"""Judges the lists of modules: rust/src/core/source.rs for the library, and of those in rust/src/core/source/ program.rs for the program and page.rs for the page."""
+"""Judges the lists of modules: rust/core/src/source.rs for the library, and of those in rust/core/src/source/ program.rs for the program and page.rs for the page."""
 import re
 
 HEAD = re.compile(r"(?://[^\n]*\n|\n)*#!\[allow\((?:\w+|clippy::all)(?:, (?:\w+|clippy::all))*\)\]\n\n")

@@ -32,9 +32,9 @@ fn put() {}
 LIMIT = "MOST | 64 | rw_sample/src/lib.rt\n"
 ROW = "rw_sample/src/lib.rt | at | i as usize | 1 | MOST | requires { i < MOST }\n"
 SATURATED = "rw_sample/src/lib.rt | at | i as usize | 1 | saturated | fn at(bytes: &[u8], i: u64)\n"
-RUST = "rust/src/core/source/rw_sample/mod.rs"
+RUST = "rust/core/src/source/rw_sample/mod.rs"
 TABLE = "tools/erasing/casts.txt"
-LISTS = ("rust/src/core/source.rs", "rust/src/core/source/program.rs", "rust/src/core/source/page.rs")
+LISTS = ("rust/core/src/source.rs", "rust/core/src/source/program.rs", "rust/core/src/source/page.rs")
 LARGE = "4_294_967_296"
 
 
@@ -72,7 +72,7 @@ def with_hint(folder, old="", new="", source=HINTED):
 
 def stranger(folder):
     forms.made(folder, {"lib": CAST.replace("i as usize", "1")})
-    forms.write(f"{folder}/rust/src/core/source/rw_sample/stranger.rs", "fn added() {}\n")
+    forms.write(f"{folder}/rust/core/src/source/rw_sample/stranger.rs", "fn added() {}\n")
 
 
 def unproved(folder):
@@ -82,7 +82,7 @@ def unproved(folder):
 
 def of_no_crate(folder):
     forms.made(folder, {"lib": "//! One.\n"})
-    forms.write(f"{folder}/rust/src/core/source/added.rs", "fn added() {}\n")
+    forms.write(f"{folder}/rust/core/src/source/added.rs", "fn added() {}\n")
 
 
 def with_list(folder, path, old, new):
@@ -96,7 +96,7 @@ def with_list(folder, path, old, new):
 
 def missing(folder):
     forms.made(folder, {"lib": "mod other;\n", "other": "//! One.\n"})
-    os.remove(f"{folder}/rust/src/core/source/rw_sample/other.rs")
+    os.remove(f"{folder}/rust/core/src/source/rw_sample/other.rs")
 
 
 def other_source(folder):
@@ -132,9 +132,9 @@ CASES = [
     ("a hint in place of the opposite one", lambda it: with_hint(it, source=HINTED.replace("fn at", "#[inline(never)]\nfn at")), "judge", ""),
     ("a hint for no function", lambda it: forms.made(it, {"lib": HINTED}, hints="rw_sample/src/lib.rt: get\n"), "erase", "there are 0 here"),
     ("a crate that isn't proved", unproved, "judge", "crates.txt: rw_sample isn't in it"),
-    ("a file of no crate", of_no_crate, "judge", "rust/src/core/source/added.rs: it is of no crate"),
+    ("a file of no crate", of_no_crate, "judge", "rust/core/src/source/added.rs: it is of no crate"),
     ("a file without a source", stranger, "judge", "crates/rw_sample/src/stranger.rt: it isn't there"),
-    ("a source without a file", missing, "judge", "rust/src/core/source/rw_sample/other.rs: it isn't there"),
+    ("a source without a file", missing, "judge", "rust/core/src/source/rw_sample/other.rs: it isn't there"),
     ("a module that isn't listed", lambda it: with_list(it, LISTS[0], "pub mod rw_sample;\n", ""), "judge", f"{LISTS[0]}: after its attribute"),
     ("code in a list", lambda it: with_list(it, LISTS[1], "pub mod", "fn added() {}\npub mod"), "judge", f"{LISTS[1]}: after its attribute"),
     ("another attribute in a list", lambda it: with_list(it, LISTS[0], "#![", "#![no_std]\n#!["), "judge", f"{LISTS[0]}: a list begins with"),

@@ -5,7 +5,7 @@ import subprocess
 
 HERE = os.path.dirname(os.path.dirname(os.path.realpath(__file__)))
 CRATES = "both: rw_sample\nlibrary:\nconsole:\nprogram:\npage:\ntests:\nports: itoa\n"
-SAID = re.compile(r"rust/src/core/source/rw_sample/(\w+)\.rs:(\d+): (.*)")
+SAID = re.compile(r"rust/core/src/source/rw_sample/(\w+)\.rs:(\d+): (.*)")
 
 
 def samples():
@@ -17,7 +17,7 @@ def samples():
 
 def made(folder, texts, casts="", hints=""):
     """Makes a checkout with one source for each text, this table of casts and these functions to inline, and erases them."""
-    for name in ("crates/rw_sample/src", "tools/erasing", "rust/src"):
+    for name in ("crates/rw_sample/src", "tools/erasing", "rust/core/src"):
         os.makedirs(f"{folder}/{name}")
     for name, text in {"tools/erasing/sources.txt": CRATES, "tools/erasing/casts.txt": casts, "tools/erasing/inlined.txt": hints, "crates.txt": "# one\nrw_sample:\n"}.items():
         write(f"{folder}/{name}", text)
@@ -40,7 +40,7 @@ def run(command, folder):
 
 def expected(folder, name):
     """The line of the Rust that a sample says is refused, with the words of the reason, or None for one that is allowed."""
-    with open(f"{folder}/rust/src/core/source/rw_sample/{name}.rs", encoding="utf-8") as file:
+    with open(f"{folder}/rust/core/src/source/rw_sample/{name}.rs", encoding="utf-8") as file:
         for number, line in enumerate(file, 1):
             if "//= " in line:
                 return number, line.partition("//= ")[2].strip()

@@ -28,7 +28,7 @@ class Planted(typing.NamedTuple):
         """The first line that differs from the file's."""
         lines = self.rust.split("\n")
         n = next((n for n, (one, other) in enumerate(zip(lines, self.file.lines)) if one != other), len(lines) - 1)
-        return f"{self.file.pair.rust.partition('/rust/src/')[2]}:{n + 1}: {lines[n]}"
+        return f"{self.file.pair.rust.partition('/rust/core/src/')[2]}:{n + 1}: {lines[n]}"
 
 
 def files_of(lists):

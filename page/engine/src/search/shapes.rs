@@ -4,12 +4,12 @@
 
 use super::digits::Digits;
 use super::{Line, parts_of};
-use crate::run::journal::RunEntry;
-use crate::run::operation::Operation;
-use crate::run::reply::Reply;
 use crate::source::rw_watch::WCall;
 use crate::source::rw_words::write_entry;
 use crate::source::rw_world::ChanCall;
+use yovanelum_record::journal::RunEntry;
+use yovanelum_record::operation::Operation;
+use yovanelum_record::reply::Reply;
 
 pub(super) struct Shapes<'a> {
     text: &'a [u8],

@@ -36,7 +36,7 @@ fn the_last_limit_is_applied() {
         let mut applied = 0;
         block_on(async {
             while seen.changed().await.is_ok() {
-                applied = *seen.borrow();
+                applied = *seen.borrow(); // what came is applied
                 seen.mark_unchanged(); // what came is marked
             }
         });

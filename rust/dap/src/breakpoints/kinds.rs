@@ -162,8 +162,8 @@ fn condition_of(id: &str, recording: &Recording) -> Result<Condition, String> {
     let is_of_call = |word| OF_CALLS.contains(&word);
     let read = read.filter(|_| !id.split(' ').next().is_some_and(is_of_call));
     let read = read.ok_or_else(|| format!("`{id}` can't be watched"))?;
-    let is_there = Some(&read).filter(|it| it.is_of(&recording.things));
-    let condition = is_there.and_then(|it| it.by_numbers(&recording.things));
+    let is_there = Some(&read).filter(|it| recording.things.has_subject_of(it));
+    let condition = is_there.and_then(|it| recording.things.condition(it));
     condition.ok_or_else(|| format!("this run has nothing that `{id}` is of"))
 }
 

@@ -2,8 +2,8 @@
 
 use crate::json::text;
 use crate::{
-    PROGRAMS, Program, assert_brought_back, assert_found, assert_in_some_session, assert_right_in,
-    assert_tells_time,
+    PROGRAMS, Program, assert_brought_back, assert_found, assert_in_some_session, assert_one_order,
+    assert_right_in, assert_tells_time,
 };
 use std::fs;
 use std::path::Path;
@@ -69,7 +69,7 @@ fn bugs_of_time_are_found() {
         // its tries is told as chance, without the order's name.
         assert_in_some_session(|| assert_tells_time(&assert_brought_back(name, &[], 5)));
     }
-    assert_right_in(2, "waits_for_a_limit", &[]);
+    assert_one_order("waits_for_a_limit", &[]);
 }
 
 /// Each takes seconds, since runs and replays hang.
@@ -96,10 +96,27 @@ fn sessions_of_one_test_beside_each_other_keep_their_files() {
     }
 }
 
+/// It takes ten seconds until a run is said to have no end.
+#[test]
+#[ignore = "rust/test slow runs it"]
+fn a_run_that_ends_where_all_go_on_in_turn_does_not_hang() {
+    let (passes, said, json) = Program::new("ends_in_turn").explored(2, "0");
+    assert!(passes, "{said}");
+    for line in [
+        " had no end; it is tried again where all who stand go on in turn\n",
+        "\n  1 run beside them had no end, and one where all who stand go on in turn\n",
+    ] {
+        assert!(said.contains(line), "no `{line}` in {said}");
+    }
+    assert_eq!(crate::json::number(&json, "endless"), 1, "{json}");
+}
+
 #[test]
 #[ignore = "rust/test slow runs it"]
 fn right_programs_pass_in_many_runs() {
     let right = PROGRAMS.iter().map(|(name, _)| *name);
     let right = right.skip_while(|name| *name != crate::table::FIRST_RIGHT);
+    // It has one order alone.
+    let right = right.filter(|name| *name != "spin");
     right.for_each(|name| assert_right_in(60, name, &[]));
 }

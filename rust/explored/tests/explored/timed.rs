@@ -2,7 +2,7 @@
 
 use crate::json::number;
 use crate::{
-    Program, assert_brought_back, assert_in_some_session, assert_right_in, assert_tells_time,
+    Program, assert_brought_back, assert_in_some_session, assert_one_order, assert_tells_time,
 };
 
 /// The timer is one of a task that could go on by a channel, so its runtime is never seen to wait
@@ -33,7 +33,7 @@ fn a_select_that_a_timer_wins_is_found() {
 
 #[test]
 fn a_test_that_sleeps_on_workers_that_were_there_first_does_not_hang() {
-    assert_right_in(2, "sleeps_beside_a_receive", &[]);
+    assert_one_order("sleeps_beside_a_receive", &[]);
 }
 
 /// Each step takes four milliseconds, so that the limit ends within the game. At half the speed it

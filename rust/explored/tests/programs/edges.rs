@@ -37,6 +37,19 @@ pub fn fails_by_chance() {
     assert_ne!(names.iter().next(), Some(&3), "the first of a set");
 }
 
+/// A random order has no end, unless all who stand go on in turn.
+pub fn ends_in_turn() {
+    let (price, mut seen) = watch::channel(0);
+    let reader = spawn("reader", move || *seen.borrow_and_update());
+    let _ = price.send(1);
+    reader.join().unwrap();
+    let order = env::var("YOVANELUM_EXPLORE_ORDER").unwrap_or_default();
+    let is_random = order.trim_start_matches('t').starts_with('r');
+    while is_random && env::var_os("YOVANELUM_EXPLORE_FAIR").is_none() {
+        thread::sleep(Duration::from_secs(1));
+    }
+}
+
 /// It fails in each order.
 pub fn fails_always() {
     let (price, mut seen) = watch::channel(0);

@@ -29,6 +29,12 @@ const LATER: [&str; 21] = [
     "watch::Receiver::mark_unchanged",
 ];
 
+/// What tokio's panic says since it has these words, and what stands in the list where it doesn't.
+const CAPACITY_WORDS: (&str, &str) = (
+    "broadcast channel capacity cannot be zero",
+    "broadcast::channel's words of a capacity",
+);
+
 /// Returns the methods that the tokio in this folder lacks, with commas between them. If its
 /// sources can't be read, it is taken to have all.
 pub fn in_folder(tokio: &Path) -> String {
@@ -50,7 +56,10 @@ pub fn in_folder(tokio: &Path) -> String {
             name.unwrap_or_default(),
         )
     });
-    lacking.copied().collect::<Vec<_>>().join(",")
+    let (words, item) = CAPACITY_WORDS;
+    let lacks_words = (!broadcast.contains(words)).then_some(item);
+    let lacking = lacking.copied().chain(lacks_words);
+    lacking.collect::<Vec<_>>().join(",")
 }
 
 /// Whether a source has a method of a type, in an `impl` as rustfmt writes it.
@@ -119,6 +128,28 @@ mod tests {
         ] {
             assert!(!has(SOURCE, of_type, name), "{of_type}::{name}");
         }
+    }
+
+    #[test]
+    fn a_tokio_whose_panics_have_other_words_says_so() {
+        let folder = std::env::temp_dir().join(format!("lacking-{}", std::process::id()));
+        let module = folder.join("src/sync");
+        fs::create_dir_all(&module).unwrap();
+        fs::write(module.join("watch.rs"), "").unwrap();
+        for (source, is_lacking) in [
+            ("assert!(capacity > 0, \"capacity is empty\");", true),
+            (
+                "assert!(capacity > 0, \"broadcast channel capacity cannot be zero\");",
+                false,
+            ),
+        ] {
+            fs::write(module.join("broadcast.rs"), source).unwrap();
+            let lacking = in_folder(&folder);
+            assert_eq!(lacking.ends_with(CAPACITY_WORDS.1), is_lacking, "{lacking}");
+        }
+        fs::remove_dir_all(&folder).unwrap();
+        let library = include_str!("../../channels/broadcast.rs");
+        assert!(library.contains(&format!("is_there(\"{}\")", CAPACITY_WORDS.1)));
     }
 
     #[test]

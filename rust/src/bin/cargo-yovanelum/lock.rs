@@ -315,12 +315,25 @@ fn with_stand_in(lock: &str, version: &str, source: &str) -> Option<String> {
         }
     }
     if packages(lock, "yovanelum").next().is_none() {
-        let version = env!("CARGO_PKG_VERSION");
-        out.push_str(&format!(
-            "\n[[package]]\nname = \"yovanelum\"\nversion = \"{version}\"\n"
-        ));
+        out.push_str(&own_packages());
     }
     Some(out)
+}
+
+/// The packages of a recorder, as a lock file has them.
+fn own_packages() -> String {
+    let version = env!("CARGO_PKG_VERSION");
+    let of = |name: &str, uses: &[&str]| {
+        let uses: String = uses.iter().map(|name| format!(" \"{name}\",\n")).collect();
+        let uses = match &*uses {
+            "" => String::new(),
+            uses => format!("dependencies = [\n{uses}]\n"),
+        };
+        format!("\n[[package]]\nname = \"{name}\"\nversion = \"{version}\"\n{uses}")
+    };
+    of("yovanelum", &["yovanelum-core", "yovanelum-record"])
+        + &of("yovanelum-core", &[])
+        + &of("yovanelum-record", &["yovanelum-core"])
 }
 
 #[cfg(test)]
@@ -354,7 +367,9 @@ mod tests {
                          dependencies = [\n \"pin-project-lite\",\n \"tokio 1.24.2 (registry+https://yovanelum.invalid/index)\",\n \"yovanelum\",\n]\n\n\
              [[package]]\nname = \"tokio\"\nversion = \"1.24.2\"\nsource = \"registry+https://yovanelum.invalid/index\"\n\
                          dependencies = [\n \"pin-project-lite\",\n]\n\n\
-             [[package]]\nname = \"yovanelum\"\nversion = \"{version}\"\n"
+             [[package]]\nname = \"yovanelum\"\nversion = \"{version}\"\ndependencies = [\n \"yovanelum-core\",\n \"yovanelum-record\",\n]\n\n\
+             [[package]]\nname = \"yovanelum-core\"\nversion = \"{version}\"\n\n\
+             [[package]]\nname = \"yovanelum-record\"\nversion = \"{version}\"\ndependencies = [\n \"yovanelum-core\",\n]\n"
         );
         assert_eq!(with_stand_in(LOCK, "1.24.2", SOURCE), Some(wanted));
         assert_eq!(with_stand_in(LOCK, "1.25.0", SOURCE), None);

@@ -1,5 +1,6 @@
 //! The command `cargo yovanelum`: runs the tests of a package as they are, with recorded channels
 //! in the place of tokio's, and finds the reports of those that failed.
+#![deny(unsafe_code)]
 
 mod journals;
 mod lacking;
@@ -28,6 +29,8 @@ use std::process::ExitCode;
 use std::time::SystemTime;
 use words::Words;
 use workspace::{CommandFailed, Workspace};
+use yovanelum_reader::answers;
+use yovanelum_record::question;
 
 /// The variable by which the runs of tests that pass are kept.
 const KEEP_PASSED: &str = "YOVANELUM_KEEP_PASSED";
@@ -107,6 +110,8 @@ fn begin(mut words: Vec<String>) -> Result<u8, CommandFailed> {
         return print(USAGE);
     };
     match verb.as_str() {
+        // A failing test has it read its run.
+        question::WORD => serve(),
         "-h" | "--help" | "help" => print(USAGE),
         verb if is_command(verb) && asks_for_help(words) => print(USAGE),
         "-V" | "--version" => print(concat!("cargo-yovanelum ", env!("CARGO_PKG_VERSION"), "\n")),
@@ -127,6 +132,17 @@ fn begin(mut words: Vec<String>) -> Result<u8, CommandFailed> {
         "completions" => completions(words),
         _ => Err(usage(format!("no such command: `{verb}`"))),
     }
+}
+
+/// Returns what a test asks of its run.
+fn serve() -> Result<u8, CommandFailed> {
+    let mut input = io::stdin().lock();
+    let mut out = io::BufWriter::new(io::stdout().lock());
+    let served = answers::serve(&mut input, &mut out, PAGE);
+    served.map(|()| 0).map_err(|error| CommandFailed {
+        line: Some(format!("write error: {error}")),
+        status: 4,
+    })
 }
 
 /// Whether the help lists a command with this name.

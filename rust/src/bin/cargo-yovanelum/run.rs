@@ -10,6 +10,7 @@ use std::env;
 use std::ffi::OsString;
 use std::path::PathBuf;
 use std::process::{Command, ExitStatus};
+use yovanelum_record::question::READER;
 
 /// The variable by which tests learn that this command runs them.
 const COMMAND: &str = "YOVANELUM_COMMAND";
@@ -112,6 +113,10 @@ impl CommandRun<'_> {
             command.args(&words.before);
         }
         command.args(&words.behind).env(COMMAND, "1");
+        // The tests start it to read their runs.
+        if let Ok(this) = env::current_exe() {
+            command.env(READER, this);
+        }
         if values == ShownValues::Debug {
             let before = env::var(UNSTABLE_IN).unwrap_or_default();
             command.env(UNSTABLE_IN, unstable_in(&before));

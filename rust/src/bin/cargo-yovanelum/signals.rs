@@ -1,5 +1,6 @@
 //! Signals that end a process. This command notes them, so that it can put `Cargo.lock` back once
 //! cargo has ended.
+#![allow(unsafe_code)]
 
 use std::io;
 use std::process::{Child, Command, ExitStatus};

@@ -155,6 +155,11 @@ fn manifest_of(manifest: &str, tokio: &Package, of_crate: &Crate) -> String {
         &of_crate.asked,
         &shown(&of_crate.folder),
     );
+    // This program reads the runs, so that no test is linked to what does.
+    let fitted = fitted.replace(
+        "features = [\"patch\"]",
+        "default-features = false, features = [\"patch\"]",
+    );
     let real = format!(
         "real-tokio = {{ package = \"tokio\", version = \"={}\", registry = \"yovanelum\", default-features = false }}",
         tokio.version

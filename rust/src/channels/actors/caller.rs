@@ -5,12 +5,12 @@ use super::origin::WITHIN;
 use super::{UNNAMED_TASK, UNNAMED_THREAD};
 use crate::channels::atomic::AtomicU64;
 use crate::channels::backend::Actor;
-use crate::run::numbered::Numbered;
 use std::cell::{Cell, RefCell};
 use std::fmt::Write;
 use std::sync::atomic::{AtomicBool, Ordering};
 use std::sync::{Arc, OnceLock, Weak};
 use std::thread;
+use yovanelum_record::numbered::Numbered;
 
 /// The number that a recorder has given to an actor.
 #[derive(Clone, Copy)]

@@ -26,6 +26,8 @@ thread_local! {
     static TASK: RefCell<Option<Arc<str>>> = const { RefCell::new(None) };
     // Whether this thread polls or drops a task without a name, which is the one above.
     static IS_IN_TASK: Cell<bool> = const { Cell::new(false) };
+    // Whether this thread polls a future on which it blocks.
+    static IS_IN_BLOCKED_POLL: Cell<bool> = const { Cell::new(false) };
 }
 
 /// Whether this thread polls or drops a task that the explorer knows.
@@ -53,10 +55,39 @@ fn replace_last_task(task: Option<Arc<str>>) -> Option<Arc<str>> {
 
 /// Tells the run that is explored where this task waits, if this process is one.
 pub(super) fn note_wait(task: Option<&Arc<str>>, seen: &SeenPolls) {
-    if let (Some(task), Some(run)) = (task, explored()) {
-        if let Some(place) = seen.waits_at() {
-            run.tasks.waits(task, place);
-        }
+    if task.is_some() {
+        note_wait_at(task, seen);
+    }
+}
+
+/// The same of what this thread blocks on.
+pub(crate) fn note_wait_of_thread(seen: &SeenPolls) {
+    note_wait_at(None, seen);
+}
+
+fn note_wait_at(task: Option<&Arc<str>>, seen: &SeenPolls) {
+    if let (Some(run), Some(place)) = (explored(), seen.waits_at()) {
+        run.tasks.waits(task, place);
+    }
+}
+
+/// Whether this thread polls a future on which it blocks.
+pub(crate) fn is_in_blocked_poll() -> bool {
+    IS_IN_BLOCKED_POLL.get()
+}
+
+/// While this is alive, this thread polls a future on which it blocks.
+pub(crate) struct BlockedPoll(bool);
+
+impl BlockedPoll {
+    pub(crate) fn enter() -> BlockedPoll {
+        BlockedPoll(IS_IN_BLOCKED_POLL.replace(true))
+    }
+}
+
+impl Drop for BlockedPoll {
+    fn drop(&mut self) {
+        IS_IN_BLOCKED_POLL.set(self.0);
     }
 }
 
@@ -75,6 +106,13 @@ impl ExploredTask {
     /// Whether this poll of the task is held back. Then the task is woken later.
     pub(super) fn is_held(&mut self, context: &Context<'_>) -> bool {
         explored().is_some_and(|run| run.tasks.hold(&mut self.task, &self.name, context))
+    }
+
+    /// Blocks this thread until the function goes on which is the task.
+    pub(super) fn begin_blocking(&mut self) {
+        if let Some(run) = explored() {
+            run.tasks.begin_blocking(&mut self.task, &self.name);
+        }
     }
 
     /// The name that no other caller has, once it was polled.

@@ -1,9 +1,9 @@
 //! Who has an actor's number: threads and named futures, as long as they are alive.
 
 use super::caller::future;
-use crate::run::listed::Keep;
-use crate::run::numbered::NumberSet;
 use std::sync::{Arc, Weak};
+use yovanelum_record::listed::Keep;
+use yovanelum_record::numbered::NumberSet;
 
 thread_local! {
     // Dropped where the thread ends.

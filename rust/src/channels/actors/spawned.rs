@@ -44,16 +44,15 @@ pub fn spawned_task<F>(_future: &F) -> Option<SpawnedTask> {
 }
 
 /// Returns what a function is that is given here to a thread on which it may block, if it has a
-/// name. In a run that is explored it has none, since its calls alone are chosen.
+/// name. In a run that is explored it has one, and its start is chosen as the polls of tasks are.
 ///
 /// No part of what this crate promises: it is for the package that stands for tokio.
 #[doc(hidden)]
 #[inline]
 #[track_caller]
 pub fn blocking_task() -> Option<SpawnedTask> {
-    if is_any_entered() && explored().is_none() {
-        let origin = spawned_at(Location::caller());
-        origin.map(|origin| SpawnedTask::of(Some(origin), None))
+    if is_any_entered() {
+        SpawnedTask::of_place(Location::caller())
     } else {
         None
     }
@@ -61,13 +60,17 @@ pub fn blocking_task() -> Option<SpawnedTask> {
 
 impl SpawnedTask {
     fn new(future: &str, at: &'static Location<'static>) -> Option<SpawnedTask> {
-        let is_explored = explored().is_some();
-        if is_explored {
+        if explored().is_some() {
             note_facade();
         }
         if future.starts_with(NAMED) {
             return None;
         }
+        SpawnedTask::of_place(at)
+    }
+
+    fn of_place(at: &'static Location<'static>) -> Option<SpawnedTask> {
+        let is_explored = explored().is_some();
         let origin = spawned_at(at);
         let explored = is_explored.then(|| {
             let name = match &origin {
@@ -130,6 +133,10 @@ impl SpawnedTask {
 
     /// Calls a function, which is the whole task.
     pub fn run<T>(mut self, function: impl FnOnce() -> T) -> T {
+        if let Some(explored) = &mut self.explored {
+            explored.begin_blocking();
+        }
+        let _within = self.explored.as_ref().and_then(|task| task.enter());
         let _entered = self.caller.enter();
         run_whole(function)
     }

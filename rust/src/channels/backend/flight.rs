@@ -1,10 +1,10 @@
 //! The last calls of a channel: what is copied of them, and the window that a journal has of them.
 
 use super::Actor;
-use crate::core::shim::alloc::Global;
-use crate::core::source::rw_journal;
-use crate::core::source::rw_law::NoMemory;
-use crate::core::source::rw_recording::{self, Recording};
+use yovanelum_core::shim::alloc::Global;
+use yovanelum_core::source::rw_journal;
+use yovanelum_core::source::rw_law::NoMemory;
+use yovanelum_core::source::rw_recording::{self, Recording};
 
 pub(crate) use rw_recording::WindowFault;
 
@@ -62,7 +62,7 @@ impl Lead {
 
     /// How many calls come after it.
     pub(crate) fn calls(&self) -> u64 {
-        self.0.kept.len()
+        self.0.kept_len()
     }
 
     /// Returns the stamp of the first one of these.
@@ -72,7 +72,7 @@ impl Lead {
 
     /// Forgets the lead.
     pub(crate) fn into_kept(self) -> Kept {
-        Kept(self.0.kept)
+        Kept(self.0.into_kept())
     }
 
     /// Adds the calls, with their stamps raised by this.

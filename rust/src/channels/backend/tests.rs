@@ -1,7 +1,7 @@
 //! What of the core the tests in `tests/` reach late or not at all.
 
 use super::{Actor, Caller, Cut, CutFault, OpenFault, Recording, Spec};
-use crate::run::reply::Reply;
+use yovanelum_record::reply::Reply;
 
 fn caller(actor: usize, clock: u64) -> Caller {
     Caller {

@@ -3,21 +3,22 @@
 use super::BroadcastHandle;
 use super::error::{RecvError, TryRecvError};
 use super::values::{Value, Values};
-use crate::channels::block_on::block_on;
+use crate::channels::block_on::{block_on, check_blocking};
 use crate::channels::channel::{CallSite, CoreChannel, LockedChannel, call_site};
 use crate::channels::events::Event;
 use crate::channels::handle::{Kind, Usual};
 use crate::channels::of_version::only_if_tokio_has;
 use crate::channels::recorder::{Handle, RecordedHandle, TextOf};
 use crate::channels::reentrant::Reentrant;
+use crate::channels::results::ReplyResult;
 use crate::channels::wait::{Method, Pending, WaitFor};
 use crate::channels::wakers::WakeAtEnd;
-use crate::run::operation::Operation;
-use crate::run::reply::Reply;
 use std::fmt;
 use std::future::{Future, poll_fn};
 use std::sync::Arc;
 use std::task::{Context, Poll};
+use yovanelum_record::operation::Operation;
+use yovanelum_record::reply::Reply;
 
 /// The receiving half of a broadcast channel.
 ///
@@ -136,7 +137,7 @@ impl<T> Receiver<T> {
     /// ```
     pub fn sender_strong_count(&self) -> usize {
         only_if_tokio_has!("broadcast::Receiver::sender_strong_count");
-        self.handle.count(CoreChannel::senders)
+        self.handle.alive(Kind::Sender)
     }
 
     /// Returns the number of weak senders that are alive, as in tokio. It is not recorded.
@@ -154,7 +155,7 @@ impl<T> Receiver<T> {
     /// ```
     pub fn sender_weak_count(&self) -> usize {
         only_if_tokio_has!("broadcast::Receiver::sender_weak_count");
-        self.handle.count(CoreChannel::weak_senders)
+        self.handle.alive(Kind::WeakSender)
     }
 
     /// Returns `true` if the channel is closed.
@@ -440,12 +441,16 @@ impl<T: Clone> Receiver<T> {
 
     /// Receives the next value, and blocks the current thread until there is one.
     ///
-    /// As in tokio, it is [`recv`](Receiver::recv) for code that is not asynchronous. Unlike tokio,
-    /// it does not panic within a runtime: it blocks the thread there.
+    /// As in tokio, it is [`recv`](Receiver::recv) for code that is not asynchronous.
     ///
     /// # Errors
     ///
     /// As [`recv`](Receiver::recv).
+    ///
+    /// # Panics
+    ///
+    /// Panics on a thread that runs tasks of tokio, as in tokio, where the channels are in tokio's
+    /// place. Elsewhere no runtime is known, and it blocks the thread.
     ///
     /// # Examples
     ///
@@ -461,6 +466,7 @@ impl<T: Clone> Receiver<T> {
     #[track_caller]
     pub fn blocking_recv(&mut self) -> Result<T, RecvError> {
         only_if_tokio_has!("broadcast::Receiver::blocking_recv");
+        check_blocking();
         block_on(self.recv_by(Method::called("blocking_recv")))
     }
 }
@@ -496,8 +502,14 @@ impl<T> Drop for Receiver<T> {
             0
         };
         let slot = self.handle.slot;
-        let (mut wakers, _) =
-            channel.drop_handle(Kind::Receiver, slot, CoreChannel::broadcast_drop);
+        let (mut wakers, _) = channel.drop_handle(
+            Kind::Receiver,
+            slot,
+            (
+                CoreChannel::broadcast_drop,
+                CoreChannel::broadcast_drop_step,
+            ),
+        );
         let unwanted = values.borrow_mut(&mut channel.state).drop_receiver(unread);
         drop(channel);
         let Some(unwanted) = unwanted else {

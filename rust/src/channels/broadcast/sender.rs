@@ -7,12 +7,13 @@ use crate::channels::channel::{CallSite, CoreChannel, LockedChannel, call_site};
 use crate::channels::handle::{Kind, Usual};
 use crate::channels::of_version::only_if_tokio_has;
 use crate::channels::recorder::{Handle, RecordedHandle, TextOf};
+use crate::channels::results::ReplyResult;
 use crate::channels::wait::{Method, WaitFor};
-use crate::run::operation::Operation;
-use crate::run::reply::Reply;
 use std::fmt;
 use std::future::Future;
 use std::task::Poll;
+use yovanelum_record::operation::Operation;
+use yovanelum_record::reply::Reply;
 
 /// The sending half of a broadcast channel.
 ///
@@ -52,7 +53,7 @@ impl<T> Sender<T> {
     ///
     /// # Panics
     ///
-    /// Panics if the capacity is 0 or greater than 65,536.
+    /// As [`channel`](super::channel).
     ///
     /// # Examples
     ///
@@ -336,10 +337,10 @@ impl<T> Sender<T> {
     /// ```
     #[track_caller]
     pub fn receiver_count(&self) -> usize {
-        self.handle.ask_count(
+        self.handle.ask_alive(
+            Kind::Receiver,
             Operation::ReceiverCount,
             CoreChannel::broadcast_receiver_count,
-            |core, _| core.receivers(),
         )
     }
 
@@ -414,7 +415,7 @@ impl<T> Sender<T> {
     /// ```
     pub fn strong_count(&self) -> usize {
         only_if_tokio_has!("broadcast::Sender::strong_count");
-        self.handle.count(CoreChannel::senders)
+        self.handle.alive(Kind::Sender)
     }
 
     /// Returns the number of weak senders that are alive, as in tokio. It is not recorded.
@@ -433,7 +434,7 @@ impl<T> Sender<T> {
     /// ```
     pub fn weak_count(&self) -> usize {
         only_if_tokio_has!("broadcast::Sender::weak_count");
-        self.handle.count(CoreChannel::weak_senders)
+        self.handle.alive(Kind::WeakSender)
     }
 }
 
@@ -453,7 +454,10 @@ impl<T> Clone for Sender<T> {
 
 impl<T> Drop for Sender<T> {
     fn drop(&mut self) {
-        self.handle.drop_by(CoreChannel::broadcast_drop);
+        self.handle.drop_by((
+            CoreChannel::broadcast_drop,
+            CoreChannel::broadcast_drop_step,
+        ));
     }
 }
 

@@ -7,11 +7,11 @@
 
 use crate::channels::in_place::arc_of;
 use crate::channels::reentrant::Reentrant;
-use crate::core::shim::{Vec as CoreVec, alloc::Global};
-use crate::core::source::rw_law::NoMemory;
-use crate::core::source::rw_values;
 use std::alloc::{Layout, handle_alloc_error};
 use std::sync::Arc;
+use yovanelum_core::shim::{Vec as CoreVec, alloc::Global};
+use yovanelum_core::source::rw_law::NoMemory;
+use yovanelum_core::source::rw_values;
 
 /// A value of more bytes is stored on the heap.
 const LARGE: usize = 1024;

@@ -4,8 +4,9 @@ use super::{BroadcastHandle, Sender};
 use crate::channels::channel::{CoreChannel, call_site};
 use crate::channels::handle::Kind;
 use crate::channels::recorder::{Handle, RecordedHandle, TextOf};
-use crate::run::operation::Operation;
+use crate::channels::results::ReplyResult;
 use std::fmt;
+use yovanelum_record::operation::Operation;
 
 /// A sender that does not keep the channel open.
 ///
@@ -82,7 +83,7 @@ impl<T> WeakSender<T> {
     /// assert_eq!(weak.strong_count(), 0);
     /// ```
     pub fn strong_count(&self) -> usize {
-        self.handle.count(CoreChannel::senders)
+        self.handle.alive(Kind::Sender)
     }
 
     /// Returns the number of weak senders that are alive, this one included, as in tokio. It is not
@@ -101,7 +102,7 @@ impl<T> WeakSender<T> {
     /// assert_eq!(weak.weak_count(), 1);
     /// ```
     pub fn weak_count(&self) -> usize {
-        self.handle.count(CoreChannel::weak_senders)
+        self.handle.alive(Kind::WeakSender)
     }
 }
 
@@ -121,7 +122,10 @@ impl<T> Clone for WeakSender<T> {
 
 impl<T> Drop for WeakSender<T> {
     fn drop(&mut self) {
-        self.handle.drop_by(CoreChannel::broadcast_drop);
+        self.handle.drop_by((
+            CoreChannel::broadcast_drop,
+            CoreChannel::broadcast_drop_step,
+        ));
     }
 }
 

@@ -5,7 +5,7 @@ use crate::channels::actors::{self, CallerNumber};
 use crate::channels::backend::Actor;
 use crate::channels::recorder::Shared;
 use crate::channels::turns::Permit;
-use crate::run::operation::Operation;
+use yovanelum_record::operation::Operation;
 
 /// By what a call is made, before it locks its channel. Of a channel without a recorder that is
 /// nothing, and whoever asks for that once has calls that ask for it no more.

@@ -4,8 +4,8 @@ use super::{CallSite, LockedChannel, RecordedChannel};
 use crate::channels::budget;
 use crate::channels::lock::lock;
 use crate::channels::turns::{ArrivingCall, OrderedChannel, Permit, Ticket};
-use crate::run::operation::Operation;
 use std::task::{Context, Poll};
+use yovanelum_record::operation::Operation;
 
 impl RecordedChannel {
     /// Returns the gate before which this call waits, if there is one, with the call as it comes

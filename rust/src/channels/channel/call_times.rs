@@ -2,8 +2,8 @@
 //! few of them.
 
 use super::ChannelState;
-use crate::run::clock::{Moment, moment_among};
-use crate::run::listed::IntoList;
+use yovanelum_record::clock::{Moment, moment_among};
+use yovanelum_record::listed::IntoList;
 
 impl ChannelState {
     /// Returns the stamp of the last send, or 0 if there was none or the channel isn't recorded.

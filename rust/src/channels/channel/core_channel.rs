@@ -22,11 +22,13 @@ mod tests;
 use super::machine::{MOST_HANDLES, Machine, made};
 use super::numbers::{Numbers, Place};
 use crate::channels::backend::{Caller, Recording, Spec};
-use crate::channels::handle::Kind;
-use crate::core::shim::Vec as CoreVec;
-use crate::core::source::rw_law::NoMemory;
-use crate::run::reply::Reply;
+use crate::channels::results::ReplyResult;
 use std::iter;
+use yovanelum_core::shim::Vec as CoreVec;
+use yovanelum_core::source::rw_law::NoMemory;
+use yovanelum_core::source::rw_steps::Told;
+use yovanelum_core::source::rw_waiting::Counts;
+use yovanelum_record::reply::Reply;
 
 /// A channel of the core.
 pub(crate) struct CoreChannel {
@@ -47,6 +49,10 @@ pub(crate) type Call = fn(&mut CoreChannel, Caller, u32) -> Reply;
 /// A call by the number of a sender, which sends the value with a number, such as
 /// [`CoreChannel::broadcast_send`].
 pub(crate) type Send = fn(&mut CoreChannel, Caller, u32, u64) -> Reply;
+
+/// A call that drops the handle with a number while some call waits, such as
+/// [`CoreChannel::broadcast_drop_step`]. It returns what it tells.
+pub(crate) type DropStep = fn(&mut CoreChannel, Caller, u32) -> (Reply, Told);
 
 impl CoreChannel {
     /// Wraps a machine that was opened with sender 0 and receiver 1. No call was made yet.
@@ -180,15 +186,6 @@ impl CoreChannel {
     fn count(&mut self, count: impl Fn(&mut Machine) -> u64) -> u64 {
         let further = self.further.iter_mut().flatten();
         count(&mut self.first) + further.map(&count).sum::<u64>()
-    }
-
-    /// How many handles of this kind are alive.
-    pub(crate) fn alive(&mut self, kind: Kind) -> u64 {
-        match kind {
-            Kind::Sender => self.senders(),
-            Kind::WeakSender => self.weak_senders(),
-            Kind::Receiver => self.receivers(),
-        }
     }
 
     /// How many values a broadcast retains for some receiver. They are the last ones that were
@@ -491,5 +488,51 @@ impl CoreChannel {
     #[cfg_attr(not(debug_assertions), inline(always))]
     pub(crate) fn watch_drop(&mut self, caller: Caller, handle: u32) -> Reply {
         self.drop_handle(handle, |core, handle| core.watch_drop(caller, handle))
+    }
+}
+
+/// Calls that drop a handle while some call waits, each with what it tells.
+macro_rules! steps_that_drop {
+    ($($step:ident by $method:ident;)*) => {
+        impl CoreChannel {
+            $(pub(crate) fn $step(&mut self, caller: Caller, handle: u32) -> (Reply, Told) {
+                if !self.further.is_empty() {
+                    return self.drop_among_several(|it| it.$method(caller, handle));
+                }
+                let place = self.numbers.own_place(handle);
+                let number = place.map_or(handle, Place::handle);
+                let (reply, told) = self.first.core.$step(caller, number);
+                if self.numbers.are_own() && reply == Reply::Dropped {
+                    self.remove(handle);
+                }
+                (reply, told)
+            })*
+        }
+    };
+}
+
+steps_that_drop! {
+    broadcast_drop_step by broadcast_drop;
+    watch_drop_step by watch_drop;
+}
+
+impl CoreChannel {
+    /// Makes the call that drops a handle of one of several machines. What it tells, the counts of
+    /// all of them say.
+    fn drop_among_several(
+        &mut self,
+        drop: impl FnOnce(&mut CoreChannel) -> Reply,
+    ) -> (Reply, Told) {
+        let before = self.counts();
+        let reply = drop(self);
+        (reply, Told::counted(reply, before, self.counts()))
+    }
+
+    /// How many senders and receivers are alive.
+    fn counts(&mut self) -> Counts {
+        Counts {
+            senders: self.senders(),
+            receivers: self.receivers(),
+        }
     }
 }

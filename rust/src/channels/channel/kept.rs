@@ -4,11 +4,11 @@ use super::chunk_size::ChunkSize;
 use super::last_calls::{LastCalls, LastCallsCopy};
 use super::{CallSite, ChannelState, WaitNow};
 use crate::channels::backend::{Kept, MOST_CHUNK};
-use crate::core::source::rw_law::NoMemory;
-use crate::run::clock::Times;
-use crate::run::listed::IntoList;
-use crate::run::numbered::NumberMap;
-use crate::run::sidecar::Maker;
+use yovanelum_core::source::rw_law::NoMemory;
+use yovanelum_record::clock::Times;
+use yovanelum_record::listed::IntoList;
+use yovanelum_record::numbered::NumberMap;
+use yovanelum_record::sidecar::Maker;
 
 /// A copy of a channel's last calls.
 pub(crate) struct KeptChannel {

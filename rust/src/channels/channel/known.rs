@@ -1,7 +1,7 @@
 //! What is known of a channel at a moment of a run that is explored.
 
 use super::ChannelState;
-use crate::run::listed::IntoList;
+use yovanelum_record::listed::IntoList;
 
 /// A channel as it is when one is chosen.
 pub(crate) struct Known {

@@ -7,14 +7,14 @@ use super::locations::Locations;
 use super::made_handles::{MadeHandles, PastHandles};
 use super::sharing_callers::SharingCallers;
 use crate::channels::backend::Actor;
-use crate::core::lists::reserved;
-use crate::core::source::rw_law::NoMemory;
-use crate::run::clock::{Clock, Moment, Times};
-use crate::run::listed::{IntoList, PushAll};
-use crate::run::sorting::sort_by_key;
 use std::collections::VecDeque;
 use std::mem;
 use std::sync::Arc;
+use yovanelum_core::lists::reserved;
+use yovanelum_core::source::rw_law::NoMemory;
+use yovanelum_record::clock::{Clock, Moment, Times};
+use yovanelum_record::listed::{IntoList, PushAll};
+use yovanelum_record::sorting::sort_by_key;
 
 /// The time is noted at each chunk's first call, and then at one call in this number.
 const CALLS_BETWEEN_TIMES: usize = 1024;

@@ -1,8 +1,8 @@
 //! Where the calls of a channel were made.
 
-use crate::core::large_pages::ask_for_large_pages;
 use std::panic::Location;
 use std::{iter, mem};
+use yovanelum_core::large_pages::ask_for_large_pages;
 
 /// Where a call was made in the source. A drop has no caller, so it has none.
 pub(crate) type CallSite = Option<&'static Location<'static>>;

@@ -2,8 +2,8 @@
 
 use super::receivers::WEAK_SLOT;
 use super::{
-    Access, Call, CallSite, ChannelState, CoreChannel, ListedCall, NO_SLOT, RecordedChannel, Send,
-    Slot,
+    Access, Call, CallSite, ChannelState, CoreChannel, DropStep, ListedCall, NO_SLOT,
+    RecordedChannel, Send, Slot,
 };
 use crate::channels::actors::{self, CallerNumber};
 use crate::channels::backend::{Actor, Caller};
@@ -11,13 +11,16 @@ use crate::channels::channel_lock::ChannelGuard;
 use crate::channels::events::{Close, Event, Lag};
 use crate::channels::handle::Kind;
 use crate::channels::recorder::{DumpRequest, Shared};
+use crate::channels::results::ReplyResult;
 use crate::channels::turns::Permit;
-use crate::channels::wait::{Awaited, Look, Method, Wait, WaitFor};
+use crate::channels::wait::{Awaited, Look, Method, Wait};
 use crate::channels::wakers::{WakeAtEnd, Wakers};
-use crate::core::source::rw_waiting::told;
-use crate::run::clock::now;
-use crate::run::reply::Reply;
 use std::sync::Arc;
+use std::task::Waker;
+use yovanelum_core::shim::alloc::Global;
+use yovanelum_core::source::rw_steps::Told;
+use yovanelum_record::clock::now;
+use yovanelum_record::reply::Reply;
 
 /// A channel whose lock is held, for the calls of one actor by one handle.
 ///
@@ -97,33 +100,56 @@ fn tell_made(permit: Option<Permit<'_>>, is_recorded: bool, text: Option<&str>) 
 /// A call of the core, as those who make it know it.
 // A closure would be called by one more function where nothing is inlined.
 pub(super) trait CoreCall: Copy {
+    /// What it tells those who wait, where its reply doesn't say it.
+    type Told;
+
     /// Makes the call by the handle with this number.
-    fn make(self, state: &mut ChannelState, caller: Caller, handle: u32) -> Reply;
+    fn make(self, state: &mut ChannelState, caller: Caller, handle: u32) -> (Reply, Self::Told);
 }
 
+/// It tells nobody, as its reply says.
 impl CoreCall for Call {
+    type Told = ();
+
     #[inline(always)]
-    fn make(self, state: &mut ChannelState, caller: Caller, handle: u32) -> Reply {
-        self(&mut state.core, caller, handle)
+    fn make(self, state: &mut ChannelState, caller: Caller, handle: u32) -> (Reply, ()) {
+        (self(&mut state.core, caller, handle), ())
     }
 }
 
-/// It sends the next value.
+/// It sends the next value. What it tells, its reply says.
 impl CoreCall for Send {
+    type Told = ();
+
     #[inline(always)]
-    fn make(self, state: &mut ChannelState, caller: Caller, handle: u32) -> Reply {
-        self(&mut state.core, caller, handle, state.value_count)
+    fn make(self, state: &mut ChannelState, caller: Caller, handle: u32) -> (Reply, ()) {
+        let reply = self(&mut state.core, caller, handle, state.value_count);
+        (reply, ())
+    }
+}
+
+/// It drops the handle.
+impl CoreCall for DropStep {
+    type Told = Told;
+
+    #[inline(always)]
+    fn make(self, state: &mut ChannelState, caller: Caller, handle: u32) -> (Reply, Told) {
+        self(&mut state.core, caller, handle)
     }
 }
 
 /// Makes a call of a channel without a recorder.
 #[inline(always)]
-fn call_unrecorded(state: &mut ChannelState, handle: u32, call: impl CoreCall) -> Reply {
-    let reply = call.make(state, Caller::UNRECORDED, handle);
-    if reply.leaves_entry() {
-        reply
+fn call_unrecorded<C: CoreCall>(
+    state: &mut ChannelState,
+    handle: u32,
+    call: C,
+) -> (Reply, C::Told) {
+    let (reply, told) = call.make(state, Caller::UNRECORDED, handle);
+    if reply.answers() {
+        (reply, told)
     } else {
-        reply.expect_made()
+        (reply.expect_made(), told)
     }
 }
 
@@ -154,7 +180,7 @@ impl<'a> LockedChannel<'a> {
     #[cfg_attr(debug_assertions, inline(never))]
     #[cfg_attr(not(debug_assertions), inline(always))]
     pub(crate) fn call(&mut self, call: Call) -> Reply {
-        self.call_core(&None, call)
+        self.call_core(&None, call).0
     }
 
     /// Makes a call that creates a handle of this kind, and returns its slot with the reply. If a
@@ -169,6 +195,7 @@ impl<'a> LockedChannel<'a> {
         let Reply::New(number) = reply else {
             return (reply, NO_SLOT);
         };
+        self.channel.counts.add(kind);
         let (state, made_at) = (&mut *self.state, self.called_at);
         state.store_making(made_at);
         let slot = match kind {
@@ -184,7 +211,7 @@ impl<'a> LockedChannel<'a> {
     #[cfg_attr(debug_assertions, inline(never))]
     #[cfg_attr(not(debug_assertions), inline(always))]
     pub(crate) fn send(&mut self, text: Option<String>, call: Send) -> (u64, Reply) {
-        let reply = self.call_core(&text, call);
+        let (reply, ()) = self.call_core(&text, call);
         let state = &mut *self.state;
         let number = state.value_count;
         state.value_count = number + 1;
@@ -211,7 +238,7 @@ impl<'a> LockedChannel<'a> {
     // Where it isn't inlined, the core's call is one by a pointer. The state is borrowed once:
     // without optimization that takes a dozen instructions each time.
     #[inline(always)]
-    fn call_core(&mut self, text: &Option<String>, call: impl CoreCall) -> Reply {
+    fn call_core<C: CoreCall>(&mut self, text: &Option<String>, call: C) -> (Reply, C::Told) {
         let (state, handle) = (&mut *self.state, self.handle);
         let Some(recorder) = self.recorder else {
             return call_unrecorded(state, handle, call);
@@ -233,18 +260,18 @@ impl<'a> LockedChannel<'a> {
             self.stamp = state.stamp_after(clock);
         }
         let caller = Caller { actor, clock };
-        let reply = call.make(state, caller, handle);
-        if !reply.leaves_entry() {
+        let (reply, told) = call.make(state, caller, handle);
+        if !reply.answers() {
             let (channel, permit) = (self.channel, self.permit.take());
             let by = (caller, handle);
-            let reply = channel.end_unrecorded(state, permit, by, reply, call);
+            let made = channel.end_unrecorded(state, permit, by, (reply, told), call);
             self.stamp = state.stamp_after(clock);
-            return reply;
+            return made;
         }
         if let Some(_permit) = &self.permit {
             tell_made(self.permit.take(), state.is_recorded, text.as_deref());
         }
-        reply
+        (reply, told)
     }
 
     /// Makes a call that waits, and for which a journal has the word of one that doesn't.
@@ -370,50 +397,66 @@ impl<'a> LockedChannel<'a> {
     /// event is to be dropped once they are woken.
     #[cfg_attr(debug_assertions, inline(never))]
     #[cfg_attr(not(debug_assertions), inline(always))]
-    pub(crate) fn drop_handle(&mut self, kind: Kind, slot: Slot, call: Call) -> (Wakers, Event) {
-        let reply = self.call(call);
+    pub(crate) fn drop_handle(
+        &mut self,
+        kind: Kind,
+        slot: Slot,
+        (call, step): (Call, DropStep),
+    ) -> (Wakers, Event) {
+        // Most often nobody waits, and so nobody can be woken.
+        if self.state.waiting.is_nobody() {
+            self.call(call);
+            let (gone, event) = self.end_dropped(kind, slot);
+            return (Wakers::gone(gone), event);
+        }
+        let (_, told) = self.call_core(&None, step);
+        let (gone, event) = self.end_dropped(kind, slot);
+        (self.state.remove_wakers(told).and_gone(gone), event)
+    }
+
+    /// Ends what the channel has of its handle of this kind, which is dropped, beside the core.
+    #[cfg_attr(debug_assertions, inline(never))]
+    #[cfg_attr(not(debug_assertions), inline(always))]
+    fn end_dropped(&mut self, kind: Kind, slot: Slot) -> (Option<Waker>, Event) {
+        let left = self.channel.counts.remove(kind);
         self.state.remove_name(self.handle);
-        if actors::is_dropping_future() {
+        // Without a recorder no entry says so.
+        if self.recorder.is_some() && actors::is_dropping_future() {
             self.state.note_cancelled();
         }
         match kind {
-            Kind::Sender => self.drop_sender(reply),
-            Kind::Receiver => (self.drop_receiver(slot, reply), Event::default()),
-            Kind::WeakSender => (Wakers::default(), Event::default()),
+            Kind::Sender => (None, self.drop_sender(left)),
+            Kind::Receiver => (self.drop_receiver(slot, left), Event::default()),
+            Kind::WeakSender => (None, Event::default()),
         }
     }
 
-    /// Ends what the channel has of its sender that is dropped, given the reply of that call. The
-    /// drop of one of several tells nobody.
+    /// Ends what the channel has of its sender that is dropped, where so many senders are left.
     #[inline]
-    fn drop_sender(&mut self, reply: Reply) -> (Wakers, Event) {
-        let left = self.core().senders();
+    fn drop_sender(&mut self, left: usize) -> Event {
         if left > 0 {
-            return (Wakers::default(), Event::default());
+            return Event::default();
         }
         self.state.note_last_drop(Kind::Sender);
-        let event = self.channel.note_close(&mut self.state, self.stamp);
-        (self.state.remove_wakers(Kind::Sender, reply), event)
+        self.channel.note_close(&mut self.state, self.stamp)
     }
 
-    /// Ends what the channel has of its receiver in this slot, which is dropped, given the reply of
-    /// that call. The drop of one of several tells nobody.
+    /// Ends what the channel has of its receiver in this slot, which is dropped, where so many are
+    /// left. Returns the waker of a call of it that was forgotten.
     #[cfg_attr(debug_assertions, inline)]
     #[cfg_attr(not(debug_assertions), inline(always))]
-    fn drop_receiver(&mut self, slot: Slot, reply: Reply) -> Wakers {
-        let left = self.core().receivers();
+    fn drop_receiver(&mut self, slot: Slot, left: usize) -> Option<Waker> {
         let state = &mut *self.state;
         let mut gone = None;
         if state.receivers.has_wait(slot) {
             gone = state.end_forgotten(slot);
         }
         state.receivers.remove(slot);
-        if left > 0 {
-            return Wakers::gone(gone);
+        if left == 0 {
+            state.receivers.remove_slots();
+            state.note_last_drop(Kind::Receiver);
         }
-        state.receivers.remove_slots();
-        state.note_last_drop(Kind::Receiver);
-        state.remove_wakers(Kind::Receiver, reply).and_gone(gone)
+        gone
     }
 
     /// Whether the handle, a receiver of a watch, has seen the value.
@@ -429,23 +472,23 @@ impl<'a> LockedChannel<'a> {
         &mut self.state.core
     }
 
-    /// Unlocks the channel, and then wakes the futures that the call of a sender with this reply
-    /// has told.
+    /// Unlocks the channel, and then wakes the futures that wait for what the call of a sender with
+    /// this reply has told.
     #[cfg_attr(debug_assertions, inline(never))]
     #[cfg_attr(not(debug_assertions), inline(always))]
     pub(crate) fn unlock_and_wake(self, reply: Reply) {
-        if !self.state.waiting.is_empty(WaitFor::Value) {
-            unlock_and_wake_each(self.state, reply);
+        if self.state.waiting.wakes_after(reply) {
+            unlock_and_wake_each(self.state, Told::by_reply(reply));
         }
     }
 
-    /// Unlocks the channel, drops a value, and then wakes the futures that the call of a sender
-    /// with this reply has told. They are woken also if the drop panics.
+    /// Unlocks the channel, drops a value, and then wakes the futures that wait for what the call
+    /// of a sender with this reply has told. They are woken also if the drop panics.
     #[cfg_attr(debug_assertions, inline(never))]
     #[cfg_attr(not(debug_assertions), inline(always))]
     pub(crate) fn unlock_drop_and_wake<V>(self, dropped: V, reply: Reply) {
-        if !self.state.waiting.is_empty(WaitFor::Value) {
-            unlock_drop_and_wake_each(self.state, dropped, reply);
+        if self.state.waiting.wakes_after(reply) {
+            unlock_drop_and_wake_each(self.state, dropped, Told::by_reply(reply));
         } else {
             drop(self);
             drop(dropped);
@@ -466,42 +509,26 @@ fn unlock_and_forget(mut state: ChannelGuard<'_, ChannelState>, slot: Slot) {
 
 #[cold]
 #[inline(never)]
-fn unlock_and_wake_each(mut state: ChannelGuard<'_, ChannelState>, reply: Reply) {
-    let mut wakers = state.remove_wakers_now(Kind::Sender, reply);
+fn unlock_and_wake_each(mut state: ChannelGuard<'_, ChannelState>, told: Told) {
+    let mut wakers = state.remove_wakers(told);
     drop(state);
     wakers.wake();
 }
 
 #[cold]
 #[inline(never)]
-fn unlock_drop_and_wake_each<V>(
-    mut state: ChannelGuard<'_, ChannelState>,
-    dropped: V,
-    reply: Reply,
-) {
-    let wakers = WakeAtEnd(state.remove_wakers_now(Kind::Sender, reply));
+fn unlock_drop_and_wake_each<V>(mut state: ChannelGuard<'_, ChannelState>, dropped: V, told: Told) {
+    let wakers = WakeAtEnd(state.remove_wakers(told));
     drop(state);
     drop(dropped);
     drop(wakers);
 }
 
 impl ChannelState {
-    /// Removes the futures that a call by a handle of this kind has told, which has this reply, and
-    /// returns their wakers.
-    #[inline]
-    fn remove_wakers(&mut self, kind: Kind, reply: Reply) -> Wakers {
-        let waiting = &self.waiting;
-        if waiting.is_empty(WaitFor::Value) && waiting.is_empty(WaitFor::NoReceiver) {
-            Wakers::default()
-        } else {
-            self.remove_wakers_now(kind, reply)
-        }
-    }
-
+    /// Removes the futures that wait for what a call has told, and returns their wakers.
     #[cold]
     #[inline(never)]
-    fn remove_wakers_now(&mut self, kind: Kind, reply: Reply) -> Wakers {
-        let notice = reply.notice(|| (kind, self.core.alive(kind)));
-        Wakers::woken(self.waiting.woken(notice.and_then(told)))
+    fn remove_wakers(&mut self, told: Told) -> Wakers {
+        Wakers::woken(self.waiting.wake(Global, told))
     }
 }

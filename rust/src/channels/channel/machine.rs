@@ -2,10 +2,11 @@
 
 use super::numbers::{NO_NUMBER, Numbers, Place};
 use crate::channels::backend::{Actor, Caller, Recording, Spec};
-use crate::run::reply::Reply;
+use crate::channels::results::ReplyResult;
 use std::alloc::{Layout, handle_alloc_error};
 use std::collections::TryReserveError;
 use std::mem;
+use yovanelum_record::reply::Reply;
 
 /// How many handles a machine makes.
 pub(super) const MOST_HANDLES: u32 = 65_536;

@@ -2,10 +2,10 @@
 //! created before, by its number in the channel's table.
 
 use super::CallSite;
-use crate::core::lists::reserved;
-use crate::core::source::rw_law::NoMemory;
-use crate::run::listed::{IntoList, PushAll};
 use std::mem;
+use yovanelum_core::lists::reserved;
+use yovanelum_core::source::rw_law::NoMemory;
+use yovanelum_record::listed::{IntoList, PushAll};
 
 /// The handles of a table. Those that the table forgets are forgotten here too.
 #[derive(Default)]

@@ -6,9 +6,9 @@ use super::chunk_size::ChunkSize;
 use super::last_calls::LastCalls;
 use super::made_handles::MadeHandles;
 use crate::channels::recorder::Shared;
-use crate::run::clock::Times;
-use crate::run::listed::IntoList;
-use crate::run::numbered::NumberMap;
+use yovanelum_record::clock::Times;
+use yovanelum_record::listed::IntoList;
+use yovanelum_record::numbered::NumberMap;
 
 /// What is known of a channel whose last calls aren't kept for a time.
 pub(crate) struct PausedFlight {

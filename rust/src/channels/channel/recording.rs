@@ -4,8 +4,9 @@ use super::locked::CoreCall;
 use super::{CallSite, ChannelState, RecordedChannel};
 use crate::channels::backend::{Actor, Caller};
 use crate::channels::recorder::Shared;
+use crate::channels::results::ReplyResult;
 use crate::channels::turns::Permit;
-use crate::run::reply::Reply;
+use yovanelum_record::reply::Reply;
 
 impl ChannelState {
     /// Returns the stamp of a call that the clock has this number for, or 0 if it isn't recorded.
@@ -106,29 +107,29 @@ impl RecordedChannel {
     /// the journal had no room wasn't made: the recording of all channels ends at it, and it is
     /// made now.
     #[cold]
-    pub(super) fn end_unrecorded(
+    pub(super) fn end_unrecorded<C: CoreCall>(
         &self,
         state: &mut ChannelState,
         permit: Option<Permit<'_>>,
         (caller, handle): (Caller, u32),
-        mut reply: Reply,
-        call: impl CoreCall,
-    ) -> Reply {
+        (mut reply, mut told): (Reply, C::Told),
+        call: C,
+    ) -> (Reply, C::Told) {
         let called_at = state.remove_location();
         if reply == Reply::JournalFull {
             if !self.goes_on_past_limit(state, (caller, called_at)) {
                 self.end_recording(state);
             }
-            reply = call.make(state, caller, handle);
-            if reply.leaves_entry() {
-                return reply;
+            (reply, told) = call.make(state, caller, handle);
+            if reply.answers() {
+                return (reply, told);
             }
             state.remove_location();
         }
         if let Some(permit) = permit {
             permit.would_wait();
         }
-        reply.expect_made()
+        (reply.expect_made(), told)
     }
 
     /// Whether the last calls of this channel are kept from now on, since the journal has no room

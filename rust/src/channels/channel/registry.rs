@@ -5,9 +5,9 @@ use super::ChannelState;
 use crate::channels::channel_lock::ChannelLock;
 use crate::channels::lock::lock;
 use crate::channels::recorder::Shared;
-use crate::run::listed::{IntoList, PushAll};
-use crate::run::sorting::sort_by_key;
 use std::sync::{Arc, Mutex, Weak};
+use yovanelum_record::listed::{IntoList, PushAll};
+use yovanelum_record::sorting::sort_by_key;
 
 /// A channel of the list.
 struct Listed {

@@ -1,10 +1,9 @@
 //! What most channels never have.
 
 use super::ChannelState;
-use super::last_drops::DropStacks;
 use crate::channels::wait::DroppedWait;
-use crate::run::numbered::NumberMap;
 use std::collections::VecDeque;
+use yovanelum_record::numbered::NumberMap;
 
 /// What is known of a channel if there is anything to say: names and texts that a test gives, and
 /// calls that waited.
@@ -22,8 +21,6 @@ pub(crate) struct Seldom {
     pub(crate) cancelled: Vec<u64>,
     // The last calls that waited and were dropped.
     pub(crate) dropped_waits: VecDeque<DroppedWait>,
-    // Where the last sender and the last receiver were dropped.
-    pub(crate) last_drops: DropStacks,
 }
 
 impl Seldom {
@@ -34,7 +31,6 @@ impl Seldom {
         waited: Vec::new(),
         cancelled: Vec::new(),
         dropped_waits: VecDeque::new(),
-        last_drops: DropStacks::NONE,
     };
 
     /// Forgets what is known of all calls, since the last ones are kept alone.

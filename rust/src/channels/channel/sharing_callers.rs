@@ -1,8 +1,8 @@
 //! Who has made those calls of a chunk whose actor has a number that several share.
 
 use crate::channels::actors::{self, CallerNumber};
-use crate::run::numbered::NumberMap;
 use std::sync::Arc;
+use yovanelum_record::numbered::NumberMap;
 
 /// The calls of a chunk that were made by the number that several share, and by whom each was.
 #[derive(Default)]

@@ -8,23 +8,23 @@ use super::locations::{CallSite, Locations};
 use super::paused::PausedFlight;
 use super::receivers::{Receivers, Slot};
 use super::seldom::Seldom;
-use super::wait_list::WaitList;
 use super::waits::{ListedCall, ListedCalls, WaitPlace};
 use crate::channels::actors::LastCaller;
-use crate::channels::backend::{Actor, Recording};
+use crate::channels::backend::{Actor, Recording, WakerList};
 use crate::channels::handle::Kind;
 use crate::channels::wait::{DroppedWait, Look, Pending, Wait, WaitFor};
 use crate::channels::whereabouts::renews;
-use crate::core::large_pages::without_giving_back;
-use crate::core::source::rw_law::NoMemory;
-use crate::run::clock::{Times, now};
-use crate::run::listed::IntoList;
-use crate::run::numbered::NumberMap;
-use crate::run::sidecar::Maker;
 use std::alloc::{Layout, handle_alloc_error};
 use std::fmt::Write;
 use std::mem;
 use std::task::Waker;
+use yovanelum_core::large_pages::without_giving_back;
+use yovanelum_core::shim::alloc::Global;
+use yovanelum_core::source::rw_law::NoMemory;
+use yovanelum_record::clock::{Times, now};
+use yovanelum_record::listed::IntoList;
+use yovanelum_record::numbered::NumberMap;
+use yovanelum_record::sidecar::Maker;
 
 /// How many calls that were dropped while they waited a channel keeps.
 const MOST_DROPPED_WAITS: usize = 16;
@@ -58,7 +58,7 @@ pub(crate) struct ChannelState {
     // The stamp of that call, which says something while the channel is recorded alone.
     pub(super) sent_stamp: u64,
     // The futures that wait, each until a call wakes it, with its waker once that is cloned.
-    pub(super) waiting: WaitList,
+    pub(super) waiting: WakerList,
     // What is known of the calls that began to wait, each from its first poll to its end. Whether
     // one waits, `waiting` says.
     pub(super) waits: ListedCalls,
@@ -67,6 +67,8 @@ pub(crate) struct ChannelState {
     pub(super) looks: Vec<Look>,
     // What most channels don't have.
     pub(super) seldom: Option<Box<Seldom>>,
+    // Where the last sender and the last receiver were dropped.
+    pub(crate) last_drops: DropStacks,
     pub(crate) locations: Locations,
     // Who has made the channel, if it has a recorder.
     pub(crate) made_by: Option<Maker>,
@@ -92,10 +94,11 @@ impl ChannelState {
             receivers: Receivers::default(),
             last_send: LastCaller::default(),
             sent_stamp: 0,
-            waiting: WaitList::default(),
+            waiting: WakerList::new(),
             waits: ListedCalls::NONE,
             looks: Vec::new(),
             seldom: None,
+            last_drops: DropStacks::NONE,
             locations: Locations::default(),
             made_by: None,
         }
@@ -416,6 +419,14 @@ impl ChannelState {
         }
     }
 
+    /// Stores the text of a value that was sent before, if all calls are recorded.
+    #[cold]
+    pub(crate) fn store_late_text(&mut self, number: u64, text: String) {
+        if self.is_recorded && self.keeps_all {
+            self.seldom_mut().texts.insert(number, text);
+        }
+    }
+
     /// Stores the text of the value that the channel was opened with, if no other was passed to the
     /// core yet.
     pub(crate) fn store_first_text(&mut self, text: String) {
@@ -431,7 +442,7 @@ impl ChannelState {
             return;
         }
         if let Some(stack) = DropStacks::stack() {
-            self.seldom_mut().last_drops.note(kind, stack);
+            self.last_drops.note(kind, stack);
         }
     }
 
@@ -496,7 +507,7 @@ impl ChannelState {
         if ticket.is_some() {
             return self.set_waker(wait_for, listed, waker?).ok().flatten();
         }
-        let ticket = self.waiting.wait(wait_for, waker);
+        let ticket = self.waiting.begin(Global, wait_for, waker);
         let ticket = ticket.unwrap_or_else(|NoMemory| no_memory());
         let slot = self.waits.set_ticket(listed, ticket)?;
         let before = self.receivers.note_wait(slot, listed.place())?;

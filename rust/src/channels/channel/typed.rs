@@ -3,6 +3,7 @@
 #![allow(unsafe_code)]
 
 use super::RecordedChannel;
+use crate::channels::erased::LaterText;
 use crate::channels::in_place::place_in;
 use crate::channels::recorder::TextOf;
 use std::mem::MaybeUninit;
@@ -68,6 +69,18 @@ impl<T, S> TypedChannel<T, S> {
             .recorder
             .is_recording()
             .then(|| text_of.text(value))?
+    }
+
+    /// As [`text`](TypedChannel::text), of a value that is locked, or else what makes the text once
+    /// nothing is.
+    pub(crate) fn text_in_place<'a>(&self, value: &T) -> (Option<String>, Option<LaterText<'a>>)
+    where
+        T: 'a,
+    {
+        match self.text_of.get() {
+            Some(text_of) if self.recorded.recorder.is_recording() => text_of.text_in_place(value),
+            _ => (None, None),
+        }
     }
 
     /// Sets the function for the texts of values. Returns `false` if the channel has one already,

@@ -4,9 +4,9 @@
 
 use super::receivers::Slot;
 use crate::channels::wait::{Wait, WaitTicket};
-use crate::run::listed::IntoList;
-use crate::run::sorting::sort_by_key;
 use std::mem;
+use yovanelum_record::listed::IntoList;
+use yovanelum_record::sorting::sort_by_key;
 
 /// Where a call is among those that wait.
 #[derive(Clone, Copy, Debug, PartialEq, Eq)]

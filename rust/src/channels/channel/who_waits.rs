@@ -4,7 +4,7 @@
 use super::ChannelState;
 use super::waits::ListedCall;
 use crate::channels::wait::{Awaited, Wait, WaitFor, WaitTicket};
-use crate::run::listed::IntoList;
+use yovanelum_record::listed::IntoList;
 
 /// What a call does that began to wait and has not ended.
 #[derive(Clone, Copy, Debug, PartialEq, Eq)]

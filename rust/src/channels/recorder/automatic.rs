@@ -6,13 +6,13 @@ use super::current::{Stack, expect_any, of_this_thread, replace_of_this_thread};
 use crate::channels::channel::CallSite;
 use crate::channels::lock::lock;
 use crate::channels::reentrant::thread_number;
-use crate::run::by_text::TextMap;
-use crate::run::listed::Keep;
 use std::any::Any;
 use std::mem;
 use std::panic::Location;
 use std::sync::{Arc, Mutex, OnceLock, Weak};
 use std::thread;
+use yovanelum_record::by_text::TextMap;
+use yovanelum_record::listed::Keep;
 
 /// What is kept until a test ends.
 type KeptRecorder = Box<dyn Any + Send>;

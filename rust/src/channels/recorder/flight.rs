@@ -10,10 +10,10 @@ pub(crate) use dumping::DumpSettings;
 pub(crate) use request::{DumpRequest, Why};
 
 use crate::channels::backend::MOST_CHUNK;
-use crate::core::large_pages;
 use dumping::Dumping;
 use std::io;
 use std::path::PathBuf;
+use yovanelum_core::large_pages;
 
 /// Writes a dump, and returns the path of its journal.
 pub(crate) type WriteDump = fn(&mut DumpRequest) -> io::Result<PathBuf>;

@@ -1,8 +1,8 @@
 //! Who has made channels, and how many.
 
 use crate::channels::actors::LastName;
-use crate::run::by_text::{TextMap, TextSet};
 use std::sync::Arc;
+use yovanelum_record::by_text::{TextMap, TextSet};
 
 /// How many makers there are before those are forgotten whose channels have left the run.
 const MANY: usize = 256;
@@ -75,7 +75,12 @@ impl Makers {
 #[cfg(test)]
 mod tests {
     use super::*;
-    use crate::run::journal::tests::runs;
+
+    /// How many requests are made for each one hundred: 200, or as many as the variable says.
+    fn runs() -> u64 {
+        let wanted = std::env::var("YOVANELUM_RUNS");
+        wanted.map_or(if cfg!(miri) { 20 } else { 200 }, |it| it.parse().unwrap())
+    }
 
     #[test]
     fn a_maker_with_a_channel_in_the_run_goes_on_counting_and_others_are_forgotten() {

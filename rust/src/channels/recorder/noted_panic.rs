@@ -3,10 +3,10 @@
 use super::Shared;
 use crate::channels::actors;
 use crate::channels::cut::start_of;
-use crate::run::sidecar::{Panic, Sidecar, SourceLocation};
 use std::panic::PanicHookInfo;
 use std::thread::{self, ThreadId};
 use std::time::Duration;
+use yovanelum_record::sidecar::{Panic, Sidecar, SourceLocation};
 
 /// How many bytes of the text of a panic, or of an error, are noted.
 pub(crate) const MOST_BYTES: usize = 4096;

@@ -13,13 +13,13 @@ use crate::channels::lock::{lock, try_lock_for};
 use crate::channels::reentrant::thread_number;
 use crate::channels::turns::{self, Turns};
 use crate::channels::whereabouts::WatchedTest;
-use crate::run::by_text::TextSet;
-use crate::run::clock::{FLIGHT_START, Times};
-use crate::run::listed::IntoList;
-use crate::run::sidecar::{Maker, Unrecorded};
 use std::sync::atomic::{AtomicBool, AtomicUsize, Ordering};
 use std::sync::{Arc, Mutex, OnceLock, Weak};
 use std::time::Duration;
+use yovanelum_record::by_text::TextSet;
+use yovanelum_record::clock::{FLIGHT_START, Times};
+use yovanelum_record::listed::IntoList;
+use yovanelum_record::sidecar::{Maker, Unrecorded};
 
 /// How many channels a run has at most.
 const MOST_CHANNELS: usize = 64;

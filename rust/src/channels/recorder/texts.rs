@@ -3,15 +3,15 @@
 //! A recorder holds them, and its channels know them weakly. A function may hold a sender or a
 //! receiver. If the channel held it, the channel would hold itself, and stay open forever.
 
-use crate::channels::cut::start_of;
-use crate::channels::erased;
+use crate::channels::cut::at_most;
+use crate::channels::erased::{self, LaterText};
 use crate::channels::events::Hooks;
 use crate::channels::lock::lock;
 use crate::channels::turns::{TestEnd, Turns};
-use crate::run::numbered::NumberMap;
 use std::any::Any;
 use std::sync::atomic::{AtomicUsize, Ordering};
 use std::sync::{Arc, Mutex, OnceLock, Weak};
+use yovanelum_record::numbered::NumberMap;
 
 /// How many bytes a text has at most, unless the recorder is told otherwise.
 const MOST_BYTES: usize = 4096;
@@ -119,8 +119,23 @@ impl<T> TextOf<T> {
             Source::Held(held) => held.text(value),
             Source::Known(given) => match given.get() {
                 Some(held) => held.text(value),
-                None => erased::text_of(value).map(|text| at_most(text, MOST_BYTES)),
+                None => erased::text_of(value),
             },
+        }
+    }
+
+    /// Returns the text of a value that is locked. Where user code that the test doesn't ask for
+    /// would make it, that is later, of a clone.
+    pub(crate) fn text_in_place<'a>(&self, value: &T) -> (Option<String>, Option<LaterText<'a>>)
+    where
+        T: 'a,
+    {
+        match &self.0 {
+            Source::Known(given) if given.get().is_none() => match erased::known_text_of(value) {
+                None => (None, erased::later_text_of(value)),
+                text => (text, None),
+            },
+            _ => (self.text(value), None),
         }
     }
 }
@@ -130,22 +145,12 @@ impl<T> HeldFunction<T> {
     fn text(&self, value: &T) -> Option<String> {
         let text = self.function.upgrade().map(|function| function(value))?;
         let most = self.most_bytes.load(Ordering::Relaxed);
-        Some(at_most(text, most))
+        Some(if text.len() > most {
+            at_most(&text, most)
+        } else {
+            text
+        })
     }
-}
-
-fn at_most(text: String, bytes: usize) -> String {
-    if text.len() > bytes {
-        cut(&text, bytes)
-    } else {
-        text
-    }
-}
-
-/// Returns the start of a text, and how long the whole is.
-#[cold]
-fn cut(text: &str, most: usize) -> String {
-    format!("{}… ({} bytes)", start_of(text, most), text.len())
 }
 
 impl<T> Drop for HeldFunction<T> {
@@ -156,16 +161,5 @@ impl<T> Drop for HeldFunction<T> {
         let function = lock(&texts.functions).by_number.remove(&self.number);
         // This runs user code, so nothing is locked here.
         drop(function);
-    }
-}
-
-#[cfg(test)]
-mod tests {
-    use super::*;
-
-    #[test]
-    fn a_text_that_is_cut_says_how_long_it_was() {
-        assert_eq!(cut("price: 101", 5), "price… (10 bytes)");
-        assert_eq!(cut("é🦀", 0), "… (6 bytes)");
     }
 }

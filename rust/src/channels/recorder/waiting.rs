@@ -3,10 +3,10 @@
 use crate::channels::backend::Actor;
 use crate::channels::channel::{ChannelState, WaitNow};
 use crate::channels::wait::Awaited;
-use crate::run::account::UnnamedChannel;
-use crate::run::sidecar::Sidecar;
 use std::fmt;
 use std::panic::Location;
+use yovanelum_record::sidecar::Sidecar;
+use yovanelum_record::unnamed::UnnamedChannel;
 
 /// A call that waits, or was woken and has not gone on since, returned by
 /// [`Recorder::waiting`](crate::Recorder::waiting).

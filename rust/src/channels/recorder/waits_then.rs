@@ -5,9 +5,9 @@ use super::Shared;
 use crate::channels::channel::{ChannelState, WaitNow};
 use crate::channels::channel_lock::ChannelLock;
 use crate::channels::lock::try_lock_for;
-use crate::run::listed::PushAll;
 use std::sync::{Arc, Weak};
 use std::time::Duration;
+use yovanelum_record::listed::PushAll;
 
 /// How long a panic waits for the lock of a channel. The thread itself may hold it.
 const PATIENCE: Duration = Duration::from_millis(5);

@@ -2,9 +2,9 @@
 
 use super::{ChannelSnapshot, NumberedCall, ReceiverSnapshot, Snapshot, Waits};
 use crate::channels::channel::CallSite;
-use crate::run::clock::iso;
-use crate::run::listed::IntoList;
-use crate::run::sidecar::Json;
+use yovanelum_record::clock::iso;
+use yovanelum_record::listed::IntoList;
+use yovanelum_record::sidecar::Json;
 
 impl Snapshot {
     /// Returns the snapshot as JSON: an object whose member `channels` has the channels, in the

@@ -2,9 +2,9 @@
 
 use super::{ChannelSnapshot, NumberedCall, ReceiverSnapshot, Snapshot, Waits};
 use crate::channels::channel::CallSite;
-use crate::run::clock::utc;
-use crate::run::listed::{IntoList, PushAll};
 use std::fmt;
+use yovanelum_record::clock::utc;
+use yovanelum_record::listed::{IntoList, PushAll};
 
 /// The heads of the columns. Those of numbers are on the right.
 const HEADS: [&str; 8] = [

@@ -1,16 +1,18 @@
 //! The receiving half of a watch channel.
 
 use super::error::RecvError;
-use super::{Ref, WatchHandle, attempt_changed};
-use crate::channels::channel::{Access, CallSite, CoreChannel, call_site};
+use super::version::SeenVersion;
+use super::{Ref, WatchHandle};
+use crate::channels::channel::{Access, CallSite, CoreChannel, LockedChannel, call_site};
 use crate::channels::handle::{Kind, Usual};
 use crate::channels::of_version::only_if_tokio_has;
 use crate::channels::recorder::{Handle, RecordedHandle, TextOf};
+use crate::channels::results::ReplyResult;
 use crate::channels::wait::{Method, Pending, WaitFor};
-use crate::run::operation::Operation;
 use std::fmt;
 use std::future::Future;
 use std::task::{Context, Poll};
+use yovanelum_record::operation::Operation;
 
 /// The receiving half of a watch channel.
 ///
@@ -37,6 +39,8 @@ use std::task::{Context, Poll};
 /// ```
 pub struct Receiver<T> {
     pub(super) handle: WatchHandle<T>,
+    // As the core knows it too, for looks that take no lock.
+    pub(super) seen: SeenVersion,
 }
 
 impl<T> Receiver<T> {
@@ -59,7 +63,7 @@ impl<T> Receiver<T> {
     /// ```
     #[track_caller]
     pub fn borrow(&self) -> Ref<'_, T> {
-        self.handle.borrow()
+        self.handle.borrow(Some(&self.seen))
     }
 
     /// Returns a reference to the last value, and marks the value as seen.
@@ -112,7 +116,14 @@ impl<T> Receiver<T> {
         let has_changed = !channel.has_seen();
         channel.call(CoreChannel::watch_update);
         channel.note_receive(self.handle.slot);
+        self.see();
         self.handle.looked(channel, inner, has_changed)
+    }
+
+    /// Notes that the receiver has seen the value, while the channel is locked.
+    #[inline(always)]
+    fn see(&self) {
+        self.seen.see(&self.handle.channel.values.version);
     }
 
     /// Returns `true` if there is a value that this receiver has not seen.
@@ -139,9 +150,21 @@ impl<T> Receiver<T> {
     /// assert_eq!(*rx.borrow(), "log = info");
     /// ```
     #[track_caller]
+    #[inline]
     pub fn has_changed(&self) -> Result<bool, RecvError> {
-        let (word, called_at) = (Operation::HasChanged, call_site());
         let recorded = self.handle.recorded();
+        if recorded.recorder.0.is_none() {
+            let version = &self.handle.channel.values.version;
+            return version.changed_since(&self.seen).ok_or(RecvError(()));
+        }
+        self.has_changed_recorded(call_site())
+    }
+
+    /// As [`has_changed`](Receiver::has_changed), where there is a recorder.
+    #[inline(never)]
+    fn has_changed_recorded(&self, called_at: CallSite) -> Result<bool, RecvError> {
+        let recorded = self.handle.recorded();
+        let word = Operation::HasChanged;
         let access = if recorded.is_quiet(self.handle.number, word, called_at) {
             self.handle.unordered()
         } else {
@@ -180,6 +203,7 @@ impl<T> Receiver<T> {
         only_if_tokio_has!("watch::Receiver::mark_changed");
         let mut channel = self.handle.lock(Operation::MarkChanged, call_site());
         channel.call(CoreChannel::watch_mark_changed);
+        self.seen.unsee(&self.handle.channel.values.version);
         channel.unlock_without_wait(self.handle.slot);
     }
 
@@ -203,8 +227,9 @@ impl<T> Receiver<T> {
     #[track_caller]
     pub fn mark_unchanged(&mut self) {
         only_if_tokio_has!("watch::Receiver::mark_unchanged");
-        self.handle
-            .call(Operation::MarkUnchanged, CoreChannel::watch_mark_unchanged);
+        let mut channel = self.handle.lock(Operation::MarkUnchanged, call_site());
+        channel.call(CoreChannel::watch_mark_unchanged);
+        self.see();
     }
 
     /// Waits until there is a value that this receiver has not seen, and marks it as seen.
@@ -239,7 +264,25 @@ impl<T> Receiver<T> {
     /// ```
     #[track_caller]
     pub fn changed(&mut self) -> impl Future<Output = Result<(), RecvError>> {
-        self.handle.changed(Method::called("changed"))
+        self.changed_by(Method::called("changed"))
+    }
+
+    /// Waits for this method until there is a value that this receiver has not seen, and marks it
+    /// as seen.
+    async fn changed_by(&self, method: Method) -> Result<(), RecvError> {
+        let attempt = |channel: &mut LockedChannel<'_>| self.attempt_changed(channel);
+        self.handle
+            .wait(WaitFor::Value, Operation::Changed, method, attempt)
+            .await
+    }
+
+    fn attempt_changed(&self, channel: &mut LockedChannel<'_>) -> Poll<Result<(), RecvError>> {
+        let changed = channel.call(CoreChannel::watch_changed).changed();
+        if let Poll::Ready(Ok(())) = changed {
+            channel.note_receive(self.handle.slot);
+            self.see();
+        }
+        changed
     }
 
     /// [`changed`](Receiver::changed) without a future. Between polls the caller holds the state of
@@ -260,7 +303,7 @@ impl<T> Receiver<T> {
             method,
             pending,
             context,
-            |channel| attempt_changed(channel, self.handle.slot),
+            |channel| self.attempt_changed(channel),
         )
     }
 
@@ -323,13 +366,14 @@ impl<T> Receiver<T> {
                         let has_changed = !channel.has_seen();
                         channel.call_that_waits(CoreChannel::watch_update);
                         channel.note_receive(self.handle.slot);
+                        self.see();
                         has_changed
                     });
                     if self.handle.channel.values.run_reading(|| f(&value)) {
                         return Ok(value);
                     }
                 }
-                self.handle.changed(method).await?;
+                self.changed_by(method).await?;
             }
         }
     }
@@ -362,19 +406,21 @@ impl<T> Clone for Receiver<T> {
                 Operation::CloneReceiver,
                 CoreChannel::watch_clone_receiver,
             ),
+            seen: self.seen.clone(),
         }
     }
 }
 
 impl<T> Drop for Receiver<T> {
     fn drop(&mut self) {
-        self.handle.drop_by(CoreChannel::watch_drop);
+        self.handle
+            .drop_by((CoreChannel::watch_drop, CoreChannel::watch_drop_step));
     }
 }
 
 impl<T: fmt::Debug> fmt::Debug for Receiver<T> {
     fn fmt(&self, f: &mut fmt::Formatter<'_>) -> fmt::Result {
-        self.handle.channel.values.fmt_handle("Receiver", f)
+        self.handle.fmt(f, Some(&self.seen))
     }
 }
 

@@ -4,14 +4,16 @@ use super::error::SendError;
 use super::{Receiver, Ref, WatchHandle, channel};
 use crate::channels::channel::{Access, CallSite, CoreChannel, LockedChannel, call_site};
 use crate::channels::handle::{Kind, Usual};
+use crate::channels::lock::lock as lock_channel;
 use crate::channels::of_version::only_if_tokio_has;
 use crate::channels::recorder::{Handle, RecordedHandle, TextOf};
+use crate::channels::results::ReplyResult;
 use crate::channels::wait::{Method, WaitFor};
-use crate::core::source::rw_values::store_sent;
-use crate::run::operation::Operation;
-use crate::run::reply::Reply;
 use std::future::Future;
 use std::{fmt, panic};
+use yovanelum_core::source::rw_values::store_sent;
+use yovanelum_record::operation::Operation;
+use yovanelum_record::reply::Reply;
 
 /// The sending half of a watch channel.
 ///
@@ -152,7 +154,7 @@ impl<T> Sender<T> {
             return self.send_to_locked(value, text, access, called_at);
         };
         let mut channel = self.handle.lock_with(access, called_at);
-        let reply = send_to(&mut *stored, &mut channel, value, text);
+        let reply = self.send_to(&mut *stored, &mut channel, value, text);
         // A waker may look at the value, so it is unlocked before those who wait for it are woken.
         drop(stored);
         channel.unlock_and_wake(reply);
@@ -182,7 +184,7 @@ impl<T> Sender<T> {
         };
         let mut stored = self.handle.write_value(method);
         let mut channel = self.handle.lock_with(access, called_at);
-        let reply = send_to(&mut *stored, &mut channel, value, text);
+        let reply = self.send_to(&mut *stored, &mut channel, value, text);
         drop(stored);
         channel.unlock_and_wake(reply);
         reply.says_stored()
@@ -289,12 +291,14 @@ impl<T> Sender<T> {
         let notify = matches!(result, Ok(true));
         // The value has changed, so the core and the receivers are notified even if the function
         // for its text panics.
-        let (text, text_panic) = match lock.run_changing(|| self.handle.channel.text(&value)) {
-            Ok(text) => (text, None),
-            Err(panicked) => (None, Some(panicked)),
+        let channel = &self.handle.channel;
+        let ((text, later), text_panic) = match lock.run_changing(|| channel.text_in_place(&value))
+        {
+            Ok(texts) => (texts, None),
+            Err(panicked) => ((None, None), Some(panicked)),
         };
         let mut channel = self.handle.lock(Operation::Modify, called_at);
-        let (_, reply) = channel.send(
+        let (number, reply) = channel.send(
             text,
             if notify {
                 |core, caller, sender, number| core.watch_modify(caller, sender, true, number)
@@ -302,8 +306,14 @@ impl<T> Sender<T> {
                 |core, caller, sender, number| core.watch_modify(caller, sender, false, number)
             },
         );
+        if reply.is_change() {
+            lock.version.note_change();
+        }
         drop(value);
         channel.unlock_and_wake(reply);
+        if let Some(text) = later.and_then(|later| later()) {
+            lock_channel(&self.handle.recorded().state).store_late_text(number, text);
+        }
         match (result, text_panic) {
             (Err(panicked), _) | (Ok(_), Some(panicked)) => panic::resume_unwind(panicked),
             (Ok(is_modified), None) => is_modified,
@@ -334,6 +344,9 @@ impl<T> Sender<T> {
         let mut stored = self.handle.write_value(method);
         let mut channel = self.handle.lock_with(access, called_at);
         let (_, reply) = channel.send(text, CoreChannel::watch_send_replace);
+        if reply.is_change() {
+            self.handle.channel.values.version.note_change();
+        }
         store_sent(&mut *stored, &mut value, reply.says_stored());
         drop(stored);
         channel.unlock_and_wake(reply);
@@ -357,7 +370,7 @@ impl<T> Sender<T> {
     /// ```
     #[track_caller]
     pub fn borrow(&self) -> Ref<'_, T> {
-        self.handle.borrow()
+        self.handle.borrow(None)
     }
 
     /// Returns `true` if the channel has no receiver.
@@ -378,12 +391,24 @@ impl<T> Sender<T> {
     /// assert!(!config.is_closed());
     /// ```
     #[track_caller]
+    #[inline]
     pub fn is_closed(&self) -> bool {
-        let reply = self.handle.ask(
-            Operation::IsClosed,
-            CoreChannel::watch_is_closed,
-            |core, _| Reply::flag(core.receivers() == 0),
-        );
+        if self.handle.recorded().recorder.0.is_none() {
+            return self.handle.alive(Kind::Receiver) == 0;
+        }
+        self.is_closed_recorded(call_site())
+    }
+
+    /// As [`is_closed`](Sender::is_closed), where there is a recorder.
+    #[inline(never)]
+    fn is_closed_recorded(&self, called_at: CallSite) -> bool {
+        let (handle, word) = (&self.handle, Operation::IsClosed);
+        if handle.recorded().is_quiet(handle.number, word, called_at) {
+            return handle.alive(Kind::Receiver) == 0;
+        }
+        let reply = handle
+            .lock(word, called_at)
+            .call(CoreChannel::watch_is_closed);
         reply == Reply::flag(true)
     }
 
@@ -440,13 +465,14 @@ impl<T> Sender<T> {
     /// ```
     #[track_caller]
     pub fn subscribe(&self) -> Receiver<T> {
-        Receiver {
-            handle: self.handle.create(
-                Kind::Receiver,
-                Operation::Subscribe,
-                CoreChannel::watch_subscribe,
-            ),
-        }
+        let (kind, word) = (Kind::Receiver, Operation::Subscribe);
+        let version = &self.handle.channel.values.version;
+        let (handle, seen) =
+            self.handle
+                .create_with(kind, word, CoreChannel::watch_subscribe, || {
+                    version.seen_now()
+                });
+        Receiver { handle, seen }
     }
 
     /// Returns the number of receivers that are alive, as in tokio.
@@ -464,10 +490,10 @@ impl<T> Sender<T> {
     /// ```
     #[track_caller]
     pub fn receiver_count(&self) -> usize {
-        self.handle.ask_count(
+        self.handle.ask_alive(
+            Kind::Receiver,
             Operation::ReceiverCount,
             CoreChannel::watch_receiver_count,
-            |core, _| core.receivers(),
         )
     }
 
@@ -486,7 +512,7 @@ impl<T> Sender<T> {
     /// ```
     pub fn sender_count(&self) -> usize {
         only_if_tokio_has!("watch::Sender::sender_count");
-        self.handle.count(CoreChannel::senders)
+        self.handle.alive(Kind::Sender)
     }
 
     /// Returns `true` if both senders belong to the same channel, as in tokio. It is not recorded.
@@ -507,18 +533,24 @@ impl<T> Sender<T> {
     }
 }
 
-/// Makes the call that sends a value, and stores the value if there is a receiver.
-// What is locked is lent: if it was moved here, it would be stored in memory once more.
-#[inline(always)]
-fn send_to<T>(
-    stored: &mut T,
-    channel: &mut LockedChannel<'_>,
-    value: &mut T,
-    text: Option<String>,
-) -> Reply {
-    let (_, reply) = channel.send(text, CoreChannel::watch_send);
-    store_sent(stored, value, reply.says_stored());
-    reply
+impl<T> Sender<T> {
+    /// Makes the call that sends a value, and stores the value if there is a receiver.
+    // What is locked is lent: if it was moved here, it would be stored in memory once more.
+    #[inline(always)]
+    fn send_to(
+        &self,
+        stored: &mut T,
+        channel: &mut LockedChannel<'_>,
+        value: &mut T,
+        text: Option<String>,
+    ) -> Reply {
+        let (_, reply) = channel.send(text, CoreChannel::watch_send);
+        if reply.is_change() {
+            self.handle.channel.values.version.note_change();
+        }
+        store_sent(stored, value, reply.says_stored());
+        reply
+    }
 }
 
 impl<T> Clone for Sender<T> {
@@ -546,13 +578,21 @@ impl<T: Default> Default for Sender<T> {
 
 impl<T> Drop for Sender<T> {
     fn drop(&mut self) {
-        self.handle.drop_by(CoreChannel::watch_drop);
+        let note = || {
+            if self.handle.alive(Kind::Sender) == 0 {
+                self.handle.channel.values.version.note_close();
+            }
+        };
+        self.handle.drop_with(
+            (CoreChannel::watch_drop, CoreChannel::watch_drop_step),
+            note,
+        );
     }
 }
 
 impl<T: fmt::Debug> fmt::Debug for Sender<T> {
     fn fmt(&self, f: &mut fmt::Formatter<'_>) -> fmt::Result {
-        self.handle.channel.values.fmt_handle("Sender", f)
+        self.handle.fmt(f, None)
     }
 }
 

@@ -2,9 +2,9 @@
 #![allow(unsafe_code)]
 
 use super::looks::LiveLooks;
+use super::version::Version;
 use crate::channels::lock::lock;
 use crate::channels::reentrant::thread_number;
-use std::fmt;
 use std::mem::MaybeUninit;
 use std::panic::{self, AssertUnwindSafe};
 use std::sync::atomic::{AtomicUsize, Ordering};
@@ -24,6 +24,8 @@ pub(super) struct ValueLock<T> {
     read_by: Mutex<Vec<usize>>,
     /// The looks that hold the lock, as far as they are known.
     pub(super) looks: LiveLooks,
+    /// What looks read without the channel's lock.
+    pub(super) version: Version,
 }
 
 impl<T> ValueLock<T> {
@@ -37,8 +39,14 @@ impl<T> ValueLock<T> {
             (&raw mut (*lock).changed_by).write(AtomicUsize::new(0));
             (&raw mut (*lock).read_by).write(Mutex::default());
             (&raw mut (*lock).looks).write(LiveLooks::default());
+            (&raw mut (*lock).version).write(Version::default());
             place.assume_init_mut()
         }
+    }
+
+    /// Returns the value with std's lock, to be formatted.
+    pub(super) fn value(&self) -> &RwLock<T> {
+        &self.value
     }
 
     /// Waits until nobody changes the value, and locks it.
@@ -113,18 +121,6 @@ impl Drop for ReadingThread<'_> {
         if let Some(index) = all.iter().position(|thread| *thread == self.thread) {
             all.swap_remove(index);
         }
-    }
-}
-
-impl<T: fmt::Debug> ValueLock<T> {
-    /// Formats a handle with the value of its channel, unless a sender has locked the value.
-    pub(super) fn fmt_handle(&self, name: &str, f: &mut fmt::Formatter<'_>) -> fmt::Result {
-        let mut handle = f.debug_struct(name);
-        match self.value.try_read() {
-            Ok(value) => handle.field("value", &*value),
-            Err(_) => handle.field("value", &format_args!("<locked>")),
-        };
-        handle.finish_non_exhaustive()
     }
 }
 

@@ -25,6 +25,8 @@ pub(super) struct StackWalk {
     count: usize,
     // Whether the frames up to here can be compared.
     is_fixed: bool,
+    // How many frames can be, from the innermost one on.
+    fixed_count: usize,
     // The frame pointer in the last frame.
     frame_pointer: usize,
     mark: usize,
@@ -34,7 +36,7 @@ pub(super) struct StackWalk {
 /// Returns the address of a value of the caller's frame. The caller must not be inlined, and has
 /// the same frame whenever it is called.
 #[inline(always)]
-pub(super) fn address_of(mark: &u8) -> usize {
+pub(crate) fn address_of(mark: &u8) -> usize {
     std::ptr::from_ref(mark).addr()
 }
 
@@ -58,6 +60,7 @@ impl StackWalk {
             returns: [Return { above: 0, to: 0 }; MOST_FRAMES],
             count: 0,
             is_fixed: true,
+            fixed_count: 0,
             frame_pointer: 0,
             mark,
             limit,
@@ -83,6 +86,7 @@ impl StackWalk {
                 to,
             };
             self.count += 1;
+            self.fixed_count += usize::from(self.is_fixed);
             let key = self.key.rotate_left(5) ^ to as u64;
             self.key = key.wrapping_mul(0x517c_c1b7_2722_0a95);
         }
@@ -94,6 +98,35 @@ impl StackWalk {
     pub(super) fn to_compare(&self) -> Option<&[Return]> {
         let is_whole = self.limit != usize::MAX && self.count < MOST_FRAMES;
         (self.is_fixed && is_whole && self.count > 0).then(|| &self.returns[..self.count])
+    }
+
+    /// Returns the first return addresses, as far as they can be compared with those of other
+    /// stacks.
+    fn fixed(&self) -> &[Return] {
+        &self.returns[..self.fixed_count]
+    }
+}
+
+/// The return addresses of a stack from the innermost one on, with which others are compared. They
+/// end where the standard library calls a thread's function or a test, since its frames say nothing
+/// of their size.
+pub(crate) struct StackStart(Box<[Return]>);
+
+/// How many return addresses there are at least. Fewer may be of this crate alone.
+const LEAST_COMPARED: usize = 4;
+
+impl StackStart {
+    /// Returns those from the frame that has `mark` on, which is the caller's, if they can be
+    /// compared.
+    pub(crate) fn from(mark: usize) -> Option<StackStart> {
+        let walk = StackWalk::from(mark, None)?;
+        let fixed = walk.fixed();
+        (fixed.len() >= LEAST_COMPARED).then(|| StackStart(fixed.into()))
+    }
+
+    /// Whether the stack from this mark on begins so. The mark is that of the same function.
+    pub(crate) fn is_from(&self, mark: usize) -> bool {
+        has_returns(mark, &self.0)
     }
 }
 
@@ -241,6 +274,36 @@ mod tests {
         assert!(once(limit, None).0.to_compare().is_some());
         let found = over_aligned(limit);
         assert!(found.key != 0 && found.to_compare().is_none());
+    }
+
+    /// Returns the start of the stack, and whether another one is the same.
+    #[inline(never)]
+    fn start(other: Option<&StackStart>) -> (StackStart, bool) {
+        let mark = 0;
+        let mark = black_box(address_of(&mark));
+        let is_same = other.is_some_and(|other| other.is_from(mark));
+        (StackStart::from(mark).unwrap(), is_same)
+    }
+
+    #[test]
+    fn starts_of_stacks_are_compared_also_those_of_two_threads() {
+        let mut before = None;
+        for turn in 0..3 {
+            let thread = std::thread::spawn(move || {
+                let mut seen = Vec::new();
+                for _ in 0..2 {
+                    let (stack, is_same) = start(before.as_ref());
+                    seen.push(is_same);
+                    before = Some(stack);
+                }
+                let other = start(before.as_ref()).1;
+                (seen, other, before)
+            });
+            let (seen, other, stack) = thread.join().unwrap();
+            assert_eq!(seen, [turn > 0, true]);
+            assert!(!other, "it is called from another line");
+            before = stack;
+        }
     }
 
     #[test]

@@ -3,12 +3,12 @@
 use super::frames::{StackWalk, address_of};
 use super::{WatchedTest, remembered};
 use crate::channels::lock::lock;
-use crate::run::numbered::Numbered;
 use std::backtrace::Backtrace;
 use std::collections::HashMap;
 use std::panic::Location;
 use std::ptr;
 use std::sync::{Arc, LazyLock, Mutex};
+use yovanelum_record::numbered::Numbered;
 
 /// How many places are kept.
 const MOST_PLACES: usize = 4096;

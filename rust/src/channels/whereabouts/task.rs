@@ -5,11 +5,11 @@ use super::{MOST_POLLS, WatchedTest, budget, waker};
 use crate::channels::actors::number_of_caller;
 use crate::channels::lock::lock;
 use crate::channels::reentrant::thread_number;
-use crate::run::listed::IntoList;
 use std::collections::VecDeque;
 use std::sync::atomic::Ordering;
 use std::sync::{Arc, Mutex};
 use std::thread;
+use yovanelum_record::listed::IntoList;
 
 /// How many polls are kept of a task. Older ones are forgotten.
 const MOST_OF_TASK: usize = 256;

@@ -3,12 +3,12 @@
 //! itself isn't taken for another test.
 
 use crate::harness::program::Program;
-use crate::run::by_text::TextMap;
-use crate::run::listed::IntoList;
 use std::fs;
 use std::ops::RangeInclusive;
 use std::path::{Path, PathBuf};
 use std::sync::OnceLock;
+use yovanelum_record::by_text::TextMap;
+use yovanelum_record::listed::IntoList;
 
 /// What the attribute of a test has in its name, such as `tokio::test` and `rstest`.
 const TEST: &str = "test";

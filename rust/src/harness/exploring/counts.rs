@@ -3,17 +3,18 @@
 use super::covered::CoveredPairs;
 use super::failing_order::FailingOrder;
 use super::process::FailureMark;
-use super::search::{Search, Task};
+use super::search::{SWITCHES, Search, Task};
+use super::steps::SeenSteps;
 use crate::harness::program;
-use crate::run::account::visible;
-use crate::run::by_text::TextMap;
-use crate::run::listed::{IntoList, Keep};
-use crate::run::numbered::NumberSet;
-use crate::run::sidecar::push_string;
 use crate::schedule::explore::Schedule;
 use std::fmt::Write;
 use std::hash::{DefaultHasher, Hash, Hasher};
 use std::time::Duration;
+use yovanelum_record::by_text::TextMap;
+use yovanelum_record::listed::{IntoList, Keep};
+use yovanelum_record::numbered::NumberSet;
+use yovanelum_record::sidecar::push_string;
+use yovanelum_record::visible;
 
 /// What is said where the system doesn't tell who sleeps.
 pub(super) const BY_CLOCK: &str =
@@ -35,6 +36,7 @@ pub(super) struct Counts {
     by_strategy: TextMap<u64>,
     pub(super) orders: NumberSet<u64>,
     covered: CoveredPairs,
+    seen: SeenSteps,
     steps: u64,
     restless: u64,
     unnamed: u64,
@@ -47,6 +49,8 @@ pub(super) struct Counts {
     by_clock: bool,
     /// How many have failed by time, and not by their order.
     pub(super) by_time: u64,
+    /// How many didn't end, and did so where each who stands goes on in turn.
+    pub(super) endless: u64,
     /// How many failed beside others and passed alone, and how the first one did.
     clashes: u64,
     clash: Option<String>,
@@ -55,7 +59,7 @@ pub(super) struct Counts {
 impl Counts {
     /// How many runs were made up to one that has failed.
     pub(super) fn made(&self) -> u64 {
-        self.runs + self.by_time
+        self.runs + self.by_time + self.endless
     }
 
     pub(super) fn add(&mut self, task: &Task, schedule: &Schedule) {
@@ -67,6 +71,7 @@ impl Counts {
         }
         self.orders.insert(order.finish());
         self.covered.add(schedule);
+        self.seen.add(schedule);
         self.steps += schedule.steps.len() as u64;
         self.restless += u64::from(schedule.restless);
         self.unnamed += u64::from(schedule.unnamed);
@@ -128,24 +133,10 @@ impl Counts {
         search: &Search,
         took: Duration,
     ) -> String {
-        let searched = match search.all_with_at_most() {
-            Some(0) => {
-                let all = all(search.passed[0], "without a switch");
-                match search.passed[1] {
-                    0 => all,
-                    some => format!(
-                        "{all}, and {some} of {} or more with one",
-                        some as usize + search.waiting(1)
-                    ),
-                }
-            }
-            Some(_) => all(search.passed.iter().sum(), "with at most one switch"),
-            None => match search.passed[0] {
-                0 => String::new(),
-                1 => "1 order without a switch passed, and there are more".to_string(),
-                some => format!("{some} orders without a switch passed, and there are more"),
-            },
-        };
+        if self.has_one_order() {
+            return self.one_order_in_words(name);
+        }
+        let searched = searched_in_words(search);
         let others = self
             .by_strategy
             .iter()
@@ -181,9 +172,26 @@ impl Counts {
         text
     }
 
+    /// Whether nobody ever had another one beside it, so that there was one order.
+    pub(super) fn has_one_order(&self) -> bool {
+        self.runs > 0 && self.seen.choices == 0 && !self.have_nothing()
+    }
+
+    /// Says that nothing was explored, and why.
+    fn one_order_in_words(&self, name: &str) -> String {
+        let runs = visible::counted(self.runs, "run");
+        let mut text = format!(
+            "explored {name}: nothing was explored: there was one order alone in {runs}, since nobody ever stood beside another one"
+        );
+        self.push_remarks(&mut text);
+        text
+    }
+
     /// Adds what is to be known of the runs, and what wasn't chosen in them.
     fn push_remarks(&self, text: &mut String) {
         if self.runs > 0 {
+            let _ = write!(text, "\n  {}", self.seen.in_words(self.steps, self.runs));
+            text.push_str(&self.bounds_in_words());
             let _ = write!(text, "\n  {}", self.covered.in_words());
         }
         let _ = write!(
@@ -213,6 +221,13 @@ impl Counts {
             let _ = write!(
                 text,
                 "\n  {runs} beside them failed by time: a timer ended that no choice let end, at half the speed after fewer steps"
+            );
+        }
+        if self.endless > 0 {
+            let runs = visible::counted(self.endless, "run");
+            let _ = write!(
+                text,
+                "\n  {runs} beside them had no end, and one where all who stand go on in turn"
             );
         }
         if let Some(clash) = self.clash_in_words() {
@@ -246,6 +261,35 @@ impl Counts {
         );
     }
 
+    /// Says with which probability the random part finds a bug: that of PCT, whose runs are
+    /// independent.
+    fn bounds_in_words(&self) -> String {
+        let (tasks, steps) = (self.seen.callers.len(), self.seen.choices);
+        let runs_of = |strategy| self.by_strategy.get(strategy).copied().unwrap_or(0);
+        let bounds = [("PCT 2", 2), ("PCT 3", 3)].map(|(strategy, depth)| {
+            let runs = runs_of(strategy);
+            (steps > 0 && runs > 0).then(|| {
+                let of_one = tasks as f64 * (steps as f64).powi(depth - 1);
+                let of_all = 1.0 - (1.0 - 1.0 / of_one).powf(runs as f64);
+                format!(
+                    "1/{of_one:.0} for a bug of depth {depth} ({} by {strategy}: {:.1} %)",
+                    visible::counted(runs, "run"),
+                    of_all * 100.0
+                )
+            })
+        });
+        let bounds: Vec<_> = bounds.into_iter().flatten().listed();
+        if bounds.is_empty() {
+            return String::new();
+        }
+        format!(
+            "\n  random: of {} with {} a run, one run finds with at least {}",
+            visible::counted(tasks as u64, "caller"),
+            visible::counted(u64::from(steps), "choice"),
+            bounds.join(", ")
+        )
+    }
+
     /// Returns all as one JSON object.
     pub(super) fn json(
         &self,
@@ -276,10 +320,26 @@ impl Counts {
         let switches = search.all_with_at_most();
         let switches = switches.map_or("null".to_string(), |switches| switches.to_string());
         let _ = write!(json, "}}, \"allWithSwitches\": {switches}");
+        let by_switches: Vec<_> = (0..=SWITCHES)
+            .map(|it| {
+                let passed = search.passed[it];
+                format!("[{passed}, {}]", passed as usize + search.waiting(it))
+            })
+            .listed();
         let _ = write!(
             json,
-            ", \"steps\": {}, \"restless\": {}",
-            self.steps, self.restless
+            ", \"allOrders\": {}, \"bySwitches\": [{}]",
+            search.is_complete(),
+            by_switches.join(", ")
+        );
+        let _ = write!(
+            json,
+            ", \"steps\": {}, \"restless\": {}, \"choices\": {}, \"callers\": {}, \"endless\": {}",
+            self.steps,
+            self.restless,
+            self.seen.choices,
+            self.seen.callers.len(),
+            self.endless
         );
         let _ = write!(
             json,
@@ -313,6 +373,48 @@ fn push_found(json: &mut String, found: Option<&FailingOrder>) {
     match found {
         Some(found) => found.push_json(json),
         None => json.push_str("null"),
+    }
+}
+
+/// Says how many orders of the search passed, by their switches, and of how many that are known.
+fn searched_in_words(search: &Search) -> String {
+    let Some(most) = search.all_with_at_most() else {
+        return match search.passed[0] {
+            0 => String::new(),
+            1 => "1 order without a switch passed, and there are more".to_string(),
+            some => format!("{some} orders without a switch passed, and there are more"),
+        };
+    };
+    let passed = search.passed[..=most].iter().sum();
+    if search.is_complete() {
+        return format!("{}, and there is no other", all(passed, "that there are"));
+    }
+    let all = match most {
+        0 => all(passed, "without a switch"),
+        1 => all(passed, "with at most one switch"),
+        _ => all(passed, &format!("with at most {most} switches")),
+    };
+    let next = most + 1;
+    match search.passed.get(next).copied().unwrap_or(0) {
+        0 => all,
+        some => format!(
+            "{all}, and {some} of {} or more with {}",
+            some as usize + search.waiting(next),
+            if next == 1 {
+                "one".to_string()
+            } else {
+                next.to_string()
+            }
+        ),
+    }
+}
+
+/// Says how many switches an order has.
+pub(super) fn with_switches(count: usize) -> String {
+    match count {
+        0 => "without a switch".to_string(),
+        1 => "with one switch".to_string(),
+        count => format!("with {count} switches"),
     }
 }
 

@@ -5,12 +5,12 @@
 //! actor, its channel, its call and where that is in the source, and by how many of these came
 //! before it.
 
-use crate::run::account::visible;
-use crate::run::by_text::TextMap;
-use crate::run::listed::IntoList;
-use crate::run::numbered::NumberMap;
 use crate::schedule::explore::{Schedule, Step, What};
 use std::hash::{DefaultHasher, Hash, Hasher};
+use yovanelum_record::by_text::TextMap;
+use yovanelum_record::listed::IntoList;
+use yovanelum_record::numbered::NumberMap;
+use yovanelum_record::visible;
 
 /// How many different steps are kept of all runs. What is known of their pairs takes 16 MiB.
 const MOST_STEPS: usize = 8192;

@@ -5,17 +5,16 @@
 //! and so is the step that the one which is moved there must come before. All orders are run.
 
 use super::passed::PassedRun;
-use super::process::{By, FailureMark, Ran, TIME_OF_RUN, TestProgram};
+use super::process::{By, FailureMark, Ran, Says, TestProgram};
 use super::shorten::Failing;
-use crate::run::by_text::TextMap;
-use crate::run::listed::IntoList;
 use crate::schedule::explore::{Order, OrderKind, Schedule, Step};
 use std::fs;
-use std::time::{Duration, Instant};
+use std::time::Instant;
+use yovanelum_record::by_text::TextMap;
+use yovanelum_record::listed::IntoList;
 
-/// How many runs the search has, and how long.
+/// How many runs the search has.
 const RUNS: usize = 60;
-const TIME: Duration = Duration::from_secs(15);
 
 /// How often an order is run where the failing one doesn't fail each time.
 const RUNS_OF_ONE: usize = 3;
@@ -29,6 +28,14 @@ pub(super) struct Exchange {
     pub(super) then: usize,
 }
 
+/// Both orders of the two steps, as they were tried.
+pub(super) struct ExchangedOrders {
+    pub(super) race: Exchange,
+    pub(super) passes: Vec<Step>,
+    pub(super) fails: Vec<Step>,
+    pub(super) has_timers: bool,
+}
+
 /// Looks for the two steps.
 pub(super) struct ExchangeSearch<'a> {
     program: &'a TestProgram,
@@ -37,7 +44,7 @@ pub(super) struct ExchangeSearch<'a> {
     /// How often an order passes that is taken to pass.
     passes: usize,
     runs: usize,
-    began: Instant,
+    until: Instant,
 }
 
 /// A part of the way, whose begin passes and whose end fails.
@@ -52,6 +59,7 @@ impl<'a> ExchangeSearch<'a> {
         failure: FailureMark,
         has_timers: bool,
         fails_each_time: bool,
+        until: Instant,
     ) -> ExchangeSearch<'a> {
         ExchangeSearch {
             program,
@@ -59,13 +67,13 @@ impl<'a> ExchangeSearch<'a> {
             has_timers,
             passes: if fails_each_time { 1 } else { RUNS_OF_ONE },
             runs: 0,
-            began: Instant::now(),
+            until,
         }
     }
 
     /// Returns the two steps, if they are found in time: what the failing run has before the run
     /// that passes has it.
-    pub(super) fn find(mut self, failing: &Failing, passed: &PassedRun) -> Option<Exchange> {
+    pub(super) fn find(mut self, failing: &Failing, passed: &PassedRun) -> Option<ExchangedOrders> {
         let (fails, passes) = (&failing.schedule.steps, &passed.steps);
         let both = fails.iter().zip(passes);
         let moved = self.halved(
@@ -103,7 +111,7 @@ impl<'a> ExchangeSearch<'a> {
     ) -> Option<Between> {
         while between.fails - between.passes > 1 {
             let middle = between.passes.midpoint(between.fails);
-            let ran = self.run(order(middle))?;
+            let ran = self.run(order(middle), Says::Failure)?;
             if ran.failure.is_some() {
                 between.fails = middle;
             } else {
@@ -115,24 +123,30 @@ impl<'a> ExchangeSearch<'a> {
 
     /// Runs both orders, of which one is to pass and one to fail, and returns the steps that were
     /// exchanged in them.
-    fn compared(&mut self, passes: Vec<Step>, fails: Vec<Step>) -> Option<Exchange> {
-        let passing = self.run(passes)?;
-        let failing = self.run(fails)?;
+    fn compared(&mut self, passes: Vec<Step>, fails: Vec<Step>) -> Option<ExchangedOrders> {
+        let passing = self.run(passes.clone(), Says::Failure)?;
+        let failing = self.run(fails.clone(), Says::All)?;
         let is_found = passing.failure.is_none() && failing.failure.as_ref() == Some(&self.failure);
         if !is_found {
             return None;
         }
         let (passing, failing) = (passing.schedule?, failing.schedule?);
         let (first, then) = exchanged(&failing.steps, &passing.steps)?;
-        Some(Exchange {
+        let race = Exchange {
             failing,
             first,
             then,
+        };
+        Some(ExchangedOrders {
+            race,
+            passes,
+            fails,
+            has_timers: self.has_timers,
         })
     }
 
     /// Makes a run by these steps, which fails if one of some does.
-    fn run(&mut self, steps: Vec<Step>) -> Option<Ran> {
+    fn run(&mut self, steps: Vec<Step>, says: Says) -> Option<Ran> {
         let path = self.program.folder.join("exchanged");
         let mut wanted = Schedule::new("s".to_string());
         wanted.steps = steps;
@@ -143,12 +157,16 @@ impl<'a> ExchangeSearch<'a> {
         };
         let mut passes = None;
         for _ in 0..self.passes {
-            if self.runs >= RUNS || self.began.elapsed() >= TIME {
+            if self.runs >= RUNS || Instant::now() >= self.until {
                 return None;
             }
             self.runs += 1;
-            let ran = self.program.run(&By::Order(&order), 0, TIME_OF_RUN).ok()?;
+            let most = self.program.time_of_run();
+            let ran = self.program.run(&By::Order(&order), says, 0, most).ok()?;
             let _ = fs::remove_dir_all(&ran.target);
+            if ran.is_cut {
+                return None;
+            }
             if ran.failure.is_some() {
                 return Some(ran);
             }

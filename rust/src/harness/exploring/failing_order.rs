@@ -1,21 +1,22 @@
 //! The order that failed, or that met the condition: what was found, in words and as JSON.
 
-use super::answer::Answer;
-use super::counts::{AskedCondition, BY_CLOCK, Counts, all};
+use super::counts::{AskedCondition, BY_CLOCK, Counts, all, with_switches};
 use super::process::FailureMark;
 use super::race::{self, Race};
 use super::search::{Search, Task};
 use super::shorten::Failing;
+use super::story::Story;
 use super::tries::Tries;
 use crate::harness::automatic::is_under_command;
 use crate::harness::replay_line::quoted;
-use crate::run::account::visible;
-use crate::run::listed::IntoList;
-use crate::run::sidecar::push_string;
 use crate::schedule::explore::{Order, OrderKind, POINTS, Schedule, Step, has_points};
 use std::fmt::Write;
 use std::path::{Path, PathBuf};
 use std::time::Duration;
+use yovanelum_record::listed::IntoList;
+use yovanelum_record::question::Meets;
+use yovanelum_record::sidecar::push_string;
+use yovanelum_record::visible;
 
 /// How many milliseconds are lost at least where a run may have failed by time.
 pub(super) const LEAST_LOST: u32 = 50;
@@ -23,6 +24,9 @@ pub(super) const LEAST_LOST: u32 = 50;
 /// From how many lost milliseconds on a report tells of them, where no choice let time pass. A
 /// machine that isn't busy seldom loses so many, and short timers may have ended in them.
 const LEAST_TOLD: u32 = 10;
+
+/// How many characters the name of an order has that is told.
+const LONGEST_NAME: usize = 100;
 
 /// A failing order, and what brings it back.
 pub(super) struct FailingOrder {
@@ -42,7 +46,10 @@ pub(super) struct FailingOrder {
     pub(super) by_order: Tries,
     pub(super) journal: Option<PathBuf>,
     pub(super) schedule: Option<PathBuf>,
+    /// The file of the order, where its name alone doesn't do.
+    pub(super) kept_order: Option<PathBuf>,
     pub(super) race: Race,
+    pub(super) story: Option<Story>,
     /// The number of the run that failed first, and when it had.
     pub(super) run: (u64, Duration),
 }
@@ -54,7 +61,7 @@ impl FailingOrder {
             by_search: first.switches,
             switches: failing.schedule.switches(),
             met: match failing.ran.answer {
-                Some(Answer::Met(call)) => Some(call),
+                Some(Meets::Met(call)) => Some(call),
                 _ => None,
             },
             ..FailingOrder::without_schedule(&failing.order, failure)
@@ -75,7 +82,9 @@ impl FailingOrder {
             by_order: Tries::default(),
             journal: None,
             schedule: None,
+            kept_order: None,
             race: Race::Unknown,
+            story: None,
             run: Default::default(),
         }
     }
@@ -131,7 +140,11 @@ impl FailingOrder {
         let (run, took) = (self.run.0, self.run.1.as_secs_f64());
         let _ = writeln!(text, " {verb}, in run {run} ({took:.1} s)");
         if !self.is_by_chance() {
-            text.push_str(&self.race.in_words(self.failure.is_met()));
+            let is_met = self.failure.is_met();
+            text.push_str(&self.race.in_words(is_met));
+            if let Some(story) = &self.story {
+                let _ = writeln!(text, "  the story: {}", story.in_words(is_met));
+            }
             text.push_str(&race::in_words(&failing.schedule));
         }
         self.push_tries(&mut text);
@@ -143,10 +156,28 @@ impl FailingOrder {
             let _ = writeln!(text, "  {clash}");
         }
         text.push_str(&failing.ran.said);
-        if self.by_order.failed > 0 && !self.is_by_chance() {
+        let is_brought_back = self.kept_order.is_some() || self.by_order.failed > 0;
+        if is_brought_back && !self.is_by_chance() {
             let _ = write!(text, "again:  {}", self.again(name, &failing.ran.said));
         }
         text
+    }
+
+    /// Whether the order is to be kept in a file, by which it comes back: its name is too long, or
+    /// it comes back less often by that, or by the clock too.
+    pub(super) fn is_kept(&self, failing: &Failing) -> bool {
+        let is_long = self.order_again().to_string().len() > LONGEST_NAME;
+        let is_better = self.by_schedule.are_more_than(self.by_order);
+        let has_time = !failing.schedule.clock.is_empty();
+        self.by_schedule.failed > 0 && (is_long || is_better || has_time)
+    }
+
+    /// Returns the name of the order by which it is made again.
+    fn name_again(&self) -> String {
+        match &self.kept_order {
+            Some(path) => self.following(path).to_string(),
+            None => self.order_again().to_string(),
+        }
     }
 
     /// Says which order was found, and which passed before.
@@ -164,13 +195,15 @@ impl FailingOrder {
         let _ = match self.by_search {
             Some(0) if self.switches == 0 => write!(text, "an order without a switch"),
             Some(0) => write!(text, "an order of the search"),
-            Some(_) => {
-                let number = search.passed[1] + 1;
-                let known = (search.passed[1] as usize + search.waiting(1)).max(number as usize);
+            Some(switches) => {
+                let passed = search.passed[switches];
+                let number = passed + 1;
+                let known = (passed as usize + search.waiting(switches)).max(number as usize);
                 write!(
                     text,
-                    "the {} of {known} with one switch",
-                    visible::nth(number)
+                    "the {} of {known} {}",
+                    visible::nth(number),
+                    with_switches(switches)
                 )
             }
             None => match self.first.kind {
@@ -178,7 +211,7 @@ impl FailingOrder {
                     write!(text, "a {} order", self.first.strategy())
                 }
                 OrderKind::Steps(_) | OrderKind::File(_) => {
-                    write!(text, "the order {}", self.first)
+                    write!(text, "the order {}", shown_name(&self.first))
                 }
                 _ => write!(text, "an order by {}", self.first.strategy()),
             },
@@ -187,7 +220,8 @@ impl FailingOrder {
 
     /// Says what brings it back, and how often.
     fn push_tries(&self, text: &mut String) {
-        let (schedule, order, name) = (self.by_schedule, self.by_order, self.order_again());
+        let (schedule, order) = (self.by_schedule, self.by_order);
+        let name = shown_name(self.order_again());
         let _ = match self.by_journal {
             Some(journal) => writeln!(
                 text,
@@ -203,7 +237,7 @@ impl FailingOrder {
     /// Returns the command that makes this order again: that of `cargo yovanelum`, or the one that
     /// replays its journal, with other variables.
     fn again(&self, name: &str, said: &str) -> String {
-        let mut variables = format!("YOVANELUM_EXPLORE_FROM={}", self.order_again());
+        let mut variables = format!("YOVANELUM_EXPLORE_FROM={}", quoted(&self.name_again()));
         if has_points() {
             let _ = write!(variables, " {POINTS}=all");
         }
@@ -235,7 +269,7 @@ impl FailingOrder {
 
     pub(super) fn push_json(&self, json: &mut String) {
         json.push_str("{\"order\": ");
-        push_string(json, &self.order_again().to_string());
+        push_string(json, &self.name_again());
         if let Some(call) = self.met {
             let _ = write!(json, ", \"call\": {call}");
         }
@@ -247,6 +281,10 @@ impl FailingOrder {
         if let Some(race) = self.race.told(self.failure.is_met()) {
             json.push_str(", \"race\": ");
             push_string(json, &race.text);
+        }
+        if let Some(story) = &self.story {
+            json.push_str(", \"story\": ");
+            push_string(json, &story.in_words(self.failure.is_met()));
         }
         for (key, path) in &[("journal", &self.journal), ("schedule", &self.schedule)] {
             let _ = write!(json, ", \"{key}\": ");
@@ -265,6 +303,15 @@ impl FailingOrder {
         }
         let of: Vec<_> = ways.iter().map(|(_, tries)| tries.of.to_string()).listed();
         let _ = write!(json, ", \"tries\": [{}]}}", of.join(", "));
+    }
+}
+
+/// Returns the name of an order, of a long one its begin.
+fn shown_name(order: &Order) -> String {
+    let name = order.to_string();
+    match name.char_indices().nth(LONGEST_NAME) {
+        Some((end, _)) => format!("{}..", &name[..end]),
+        None => name,
     }
 }
 
@@ -306,6 +353,14 @@ mod tests {
         let time = [What::Time { ready }];
         assert_eq!(said(30, &time), "");
         assert_eq!(said(50, &time), line.replace("30", "50"));
+    }
+
+    #[test]
+    fn of_a_long_name_the_begin_is_told() {
+        let named = |text: &str| shown_name(&Order::read(text).unwrap());
+        assert_eq!(named("ts12.1-15.2"), "ts12.1-15.2");
+        let long = format!("s1.1{}", "-2.1".repeat(1000));
+        assert_eq!(named(&long), format!("{}..", &long[..LONGEST_NAME]));
     }
 
     #[test]

@@ -1,13 +1,12 @@
 //! The program of the test, which is run again for each run, as a process.
 
-use super::answer::{ANSWER, Answer};
+use super::answer::{self, ANSWER};
 use super::settings::RUNS;
 use crate::channels::atomic::AtomicU64;
 use crate::channels::lock::lock;
-use crate::run::listed::{IntoList, Keep, PushAll};
 use crate::schedule::explore::{
-    Asked, ORDER, Order, PAUSE, PROCESSOR, RunEnd, SCHEDULE, SESSION, Schedule, Sleeper, TARGET,
-    Threads,
+    Asked, FAIR, ORDER, Order, PAUSE, PROCESSOR, QUIET, RunEnd, SCHEDULE, SESSION, Schedule,
+    Sleeper, TARGET, Threads,
 };
 use std::fs::File;
 use std::io;
@@ -17,9 +16,14 @@ use std::sync::atomic::Ordering;
 use std::sync::{Arc, Mutex, Weak};
 use std::time::{Duration, Instant};
 use std::{env, fs, process, thread};
+use yovanelum_record::listed::{IntoList, Keep, PushAll};
+use yovanelum_record::question::Meets;
 
-/// How long a run takes at most.
+/// How long a run takes at most, and how many times as long as one that has passed. On a busy
+/// machine the same run may take some times longer.
 pub(super) const TIME_OF_RUN: Duration = Duration::from_secs(60);
+const LEAST_TIME_OF_RUN: Duration = Duration::from_secs(10);
+const TIMES_OF_PASSED: u32 = 20;
 
 /// How long all threads of a replay wait forever before it is said to hang.
 const HUNG_AFTER: Duration = Duration::from_millis(500);
@@ -44,6 +48,10 @@ pub(super) struct TestProgram {
     pub(super) folder: PathBuf,
     next: AtomicU64,
     running: Arc<Mutex<Vec<Weak<Running>>>>,
+    /// When no run may go on any more, once that is known.
+    end: Mutex<Option<Instant>>,
+    /// How long the longest run took that has passed.
+    longest: Mutex<Option<Duration>>,
 }
 
 /// By what a run is made.
@@ -51,7 +59,18 @@ pub(super) enum By<'a> {
     Order(&'a Order),
     /// Each step takes so long at least.
     Slowed(&'a Order, Duration),
+    /// Whoever stands goes on in turn.
+    Fair(&'a Order),
     Journal(&'a Path),
+}
+
+/// What a run says that fails.
+#[derive(Clone, Copy, PartialEq, Eq)]
+pub(super) enum Says {
+    /// Its report, with the files that it is of.
+    All,
+    /// How it fails. It takes less time.
+    Failure,
 }
 
 /// What a run was.
@@ -60,11 +79,13 @@ pub(super) struct Ran {
     pub(super) schedule: Option<Schedule>,
     pub(super) failure: Option<FailureMark>,
     /// What it says of the condition, if it is asked for one.
-    pub(super) answer: Option<Answer>,
+    pub(super) answer: Option<Meets>,
     /// The folder in which the files of a test that fails are, as in cargo's target folder.
     pub(super) target: PathBuf,
     /// What it has written to standard error.
     pub(super) said: String,
+    /// Whether it was ended since the session's time was over, so that it says nothing.
+    pub(super) is_cut: bool,
 }
 
 /// By what a failure is known again: where the first panic was, that all wait forever, or what the
@@ -76,6 +97,11 @@ impl FailureMark {
     /// Whether the run passes, and meets the condition.
     pub(super) fn is_met(&self) -> bool {
         self.0 == MET
+    }
+
+    /// Whether the run had no end.
+    pub(super) fn is_no_end(&self) -> bool {
+        self.0 == NO_END
     }
 }
 
@@ -116,15 +142,57 @@ impl TestProgram {
             folder,
             next: AtomicU64::new(0),
             running,
+            end: Mutex::default(),
+            longest: Mutex::default(),
         })
+    }
+
+    /// Ends all runs then.
+    pub(super) fn set_end(&self, end: Option<Instant>) {
+        *lock(&self.end) = end;
+    }
+
+    /// Returns how long a run takes at most: by how long those took that have passed, if there are
+    /// any.
+    pub(super) fn time_of_run(&self) -> Duration {
+        lock(&self.longest).map_or(TIME_OF_RUN, |longest| {
+            (longest * TIMES_OF_PASSED).clamp(LEAST_TIME_OF_RUN, TIME_OF_RUN)
+        })
+    }
+
+    /// Runs the test, for this long at most, and tells how it fails alone.
+    ///
+    /// # Errors
+    ///
+    /// Returns an error if the process can't be started, or if the time of the session is over.
+    pub(super) fn try_run(&self, by: &By<'_>, processor: usize, most: Duration) -> io::Result<Ran> {
+        let ran = self.run(by, Says::Failure, processor, most)?;
+        let _ = fs::remove_dir_all(&ran.target);
+        if ran.is_cut {
+            return Err(time_is_over());
+        }
+        Ok(ran)
     }
 
     /// Runs the test, for this long at most.
     ///
     /// # Errors
     ///
-    /// Returns an error if the process can't be started.
-    pub(super) fn run(&self, by: &By<'_>, processor: usize, most: Duration) -> io::Result<Ran> {
+    /// Returns an error if the process can't be started, or if the time of the session is over.
+    pub(super) fn run(
+        &self,
+        by: &By<'_>,
+        says: Says,
+        processor: usize,
+        most: Duration,
+    ) -> io::Result<Ran> {
+        let end = *lock(&self.end);
+        let left = end.map(|end| end.saturating_duration_since(Instant::now()));
+        if left.is_some_and(|left| left.is_zero()) {
+            return Err(time_is_over());
+        }
+        let is_less = left.is_some_and(|left| left < most);
+        let (began, most) = (Instant::now(), left.unwrap_or(most).min(most));
         let number = self.next.fetch_add(1, Ordering::Relaxed);
         let target = self.folder.join(number.to_string());
         let path = self.folder.join(format!("{number}.schedule"));
@@ -140,7 +208,8 @@ impl TestProgram {
             .env_remove(RUNS)
             .env_remove("YOVANELUM_KEEP")
             .env_remove(REPLAY)
-            .envs((most < TIME_OF_RUN).then_some(("RUST_BACKTRACE", "0")))
+            .envs((says == Says::Failure).then_some(("RUST_BACKTRACE", "0")))
+            .envs((says == Says::Failure).then_some((QUIET, "1")))
             .stdin(Stdio::null())
             .stdout(Stdio::null())
             // A process that outlives the test has it too, and would keep a pipe open.
@@ -149,6 +218,10 @@ impl TestProgram {
             By::Order(order) => Some(order),
             By::Slowed(order, pause) => {
                 command.env(PAUSE, pause.as_micros().to_string());
+                Some(order)
+            }
+            By::Fair(order) => {
+                command.env(FAIR, "1");
                 Some(order)
             }
             By::Journal(journal) => {
@@ -166,18 +239,23 @@ impl TestProgram {
         let (status, was_ended) = self.waited_for(command, order.is_some(), most)?;
         let said = String::from_utf8_lossy(&fs::read(&stderr)?).into_owned();
         let schedule = Schedule::of_file(&path).ok();
-        let said_of = Answer::of_file(&answer);
+        let said_of = answer::of_file(&answer);
         for path in &[path, answer, stderr] {
             let _ = fs::remove_file(path);
         }
         let failure = failure(status, was_ended, &said, schedule.as_ref());
-        let is_met = matches!(said_of, Some(Answer::Met(_)));
+        let is_met = matches!(said_of, Some(Meets::Met(_)));
+        if failure.is_none() {
+            let mut longest = lock(&self.longest);
+            *longest = (*longest).max(Some(began.elapsed()));
+        }
         Ok(Ran {
             schedule,
             failure: failure.or(is_met.then(|| FailureMark(MET.to_string()))),
             answer: said_of,
             target,
             said,
+            is_cut: is_less && was_ended == Some(NO_END),
         })
     }
 
@@ -206,6 +284,10 @@ impl TestProgram {
             thread::sleep(wait.clamp(SHORTEST_WAIT, LONGEST_WAIT));
         }
     }
+}
+
+fn time_is_over() -> io::Error {
+    io::Error::new(io::ErrorKind::TimedOut, "the time of the session is over")
 }
 
 /// Says in one line how a run has failed: where, and with what text.
@@ -326,7 +408,12 @@ mod tests {
         let test = format!("{here}::a_run_that_does_not_end_is_ended_and_says_so");
         let program = TestProgram::new(&test, crate::temporary::path("no-end")).unwrap();
         let order = Order::read("s").unwrap();
-        let ran = program.run(&By::Order(&order), 0, Duration::from_millis(100));
+        let by = By::Order(&order);
+        let ran = program.try_run(&by, 0, Duration::from_millis(100));
         assert_eq!(ran.unwrap().failure, Some(FailureMark(NO_END.to_string())));
+        // Where the time of the session is over before, nobody knows.
+        program.set_end(Some(Instant::now() + Duration::from_millis(100)));
+        let ran = program.try_run(&by, 0, TIME_OF_RUN);
+        assert_eq!(ran.unwrap_err().kind(), io::ErrorKind::TimedOut);
     }
 }

@@ -1,15 +1,18 @@
 //! The race of a failing order in words: the two steps that make the difference, and the switches.
 
 use super::exchange::Exchange;
-use crate::run::listed::IntoList;
-use crate::run::operation::Operation;
-use crate::run::sidecar::{RaceFound, RaceStep};
 use crate::schedule::explore::{RunEnd, Schedule, Step, Turn, What};
 use std::fmt::Write as _;
+use yovanelum_record::listed::IntoList;
+use yovanelum_record::operation::Operation;
+use yovanelum_record::sidecar::{RaceFound, RaceStep};
 
 /// How many switches are told, and how many calls within one.
 const SWITCHES_TOLD: usize = 3;
 const CALLS_TOLD: usize = 3;
+
+/// At how many steps it is told that time passed.
+const TIMES_TOLD: usize = 3;
 
 /// What is between the parts of a race in a report.
 const BREAK: &str = "\n            ";
@@ -158,15 +161,28 @@ pub(super) fn in_words(schedule: &Schedule) -> String {
     if untold > 0 {
         let _ = writeln!(lines, "  and {untold} more");
     }
-    for (at, step) in (1..).zip(&schedule.steps) {
-        if let What::Time { ready } = &step.what {
+    push_times(&mut lines, schedule);
+    lines
+}
+
+/// Adds at which steps time passed. Of many, the first ones are told.
+fn push_times(lines: &mut String, schedule: &Schedule) {
+    let times = (1..)
+        .zip(&schedule.steps)
+        .filter(|(_, step)| step.is_time());
+    let mut count = 0;
+    for (at, step) in times {
+        count += 1;
+        if let (true, What::Time { ready }) = (count <= TIMES_TOLD, &step.what) {
             let _ = writeln!(
                 lines,
                 "  time passed at step {at} while {ready} stood ready"
             );
         }
     }
-    lines
+    if count > TIMES_TOLD {
+        let _ = writeln!(lines, "  and at {} further steps", count - TIMES_TOLD);
+    }
 }
 
 fn places(schedule: &Schedule, is_meant: impl Fn(&Step) -> bool) -> Vec<usize> {
@@ -225,21 +241,26 @@ fn is_call(step: &Step) -> bool {
 
 /// Adds a call with its place, which has its file only if that isn't this one.
 fn push(said: &mut String, start: &str, call: &Step, schedule: &Schedule, file: &mut String) {
+    if is_call(call) {
+        let _ = write!(said, "{start}{}", called(call, schedule));
+        push_place(said, call.at.as_ref(), file);
+    }
+}
+
+/// Returns the call that a step is, without its place.
+pub(super) fn called(call: &Step, schedule: &Schedule) -> String {
     match &call.what {
         What::Call { word, channel, .. } => {
             let mut names = schedule.channels.iter();
             let name = names.find(|(number, _)| number == channel);
-            let _ = match name {
-                Some((_, name)) => write!(said, "{start}{name}.{}", method(word)),
-                None => write!(said, "{start}channel {channel}.{}", method(word)),
-            };
+            match name {
+                Some((_, name)) => format!("{name}.{}", method(word)),
+                None => format!("channel {channel}.{}", method(word)),
+            }
         }
-        What::Point { called } => {
-            let _ = write!(said, "{start}{called}");
-        }
-        What::Poll | What::Time { .. } => return,
+        What::Point { called } => called.clone(),
+        What::Poll | What::Time { .. } => String::new(),
     }
-    push_place(said, call.at.as_ref(), file);
 }
 
 /// Adds a place in the source, with its file only if that isn't this one.
@@ -418,6 +439,21 @@ mod tests {
         schedule.steps = vec![step("heart", None, Turn::Free), time];
         let wanted = "  time passed at step 2 while `monitor` stood ready\n";
         assert!(in_words(&schedule).ends_with(wanted));
+    }
+
+    #[test]
+    fn of_many_times_the_first_ones_are_told() {
+        let mut schedule = Schedule::new("ts1.1".to_string());
+        for _ in 0..200 {
+            let mut time = step("(time)", None, Turn::Switch);
+            time.what = What::Time {
+                ready: "`monitor`".to_string(),
+            };
+            schedule.steps.push(time);
+        }
+        let words = in_words(&schedule);
+        let told = words.matches("  time passed at step ").count();
+        assert!(told == TIMES_TOLD && words.ends_with("  and at 197 further steps\n"));
     }
 
     #[test]

@@ -3,12 +3,12 @@
 
 use super::exchange::Exchange;
 use super::race::Race;
-use crate::harness::ending;
-use crate::run::journal::{Run, RunEntry};
-use crate::run::report::Report;
-use crate::run::sidecar::Sidecar;
+use crate::harness::{ending, reader};
 use crate::schedule::explore::{Schedule, Step, What};
+use std::fs;
 use std::path::Path;
+use yovanelum_record::journal::{Run, RunEntry};
+use yovanelum_record::sidecar::Sidecar;
 
 /// The names and the page of a run.
 pub(super) struct WithRace {
@@ -35,14 +35,22 @@ impl Race {
         race.first.stamp = calls.stamp(found, found.first);
         race.then.stamp = calls.stamp(found, found.then);
         names.order.race = Some(race);
-        let report = Report::on(&run, &names).ok()?;
-        names.account = Some(report.account().to_json());
-        let names = names.to_json();
+        let report = reader::report(&run, journal, &names, ending::options(path, false)).ok()?;
         Some(WithRace {
-            page: ending::page_of(path, journal, &names).ok(),
-            names,
+            page: report.page.ok(),
+            names: report.names,
         })
     }
+}
+
+/// Returns the number of the call which the first step of a race makes, or goes on to, in the run
+/// with this journal and these steps.
+pub(super) fn number(found: &Exchange, journal: &Path, schedule: &Schedule) -> Option<u64> {
+    let names = fs::read_to_string(journal.with_extension("names")).ok()?;
+    let names = Sidecar::read(&names).ok()?;
+    let run = Run::with_callers(&fs::read(journal).ok()?, &names).ok()?;
+    let stamp = StepCalls::of(schedule, &run).stamp(found, found.first)?;
+    Some(run.place_of_stamp(stamp))
 }
 
 /// The steps of a run, each with the stamp of its call, if that was recorded.

@@ -1,28 +1,33 @@
 //! What a session reports of a failing order: it is brought to few switches, tried again, and its
 //! files are put where they are looked for.
 
-use super::exchange::ExchangeSearch;
+use super::exchange::{ExchangeSearch, ExchangedOrders};
 use super::failing_order::FailingOrder;
 use super::passed::PassedRun;
 use super::process::By;
 use super::race::Race;
 use super::session::{FoundRun, Session};
-use super::settings::From;
 use super::shorten::{Failing, Shortening};
 use super::tries::TIME_OF_TRY;
 use crate::channels::lock::lock;
 use crate::channels::standard_error::say;
 use crate::harness::files;
 use crate::harness::program::Program;
-use crate::run::sidecar::Sidecar;
 use crate::schedule::explore::{Order, Schedule};
 use std::path::{Path, PathBuf};
 use std::{fs, io};
+use yovanelum_record::sidecar::Sidecar;
 
 /// The orders that are tried where no run has passed.
 const OTHERS: [&str; 10] = [
     "s", "r1", "r2", "r3", "p2.1.9", "p2.2.9", "p3.3.9", "o1", "o2", "o3",
 ];
+
+/// After how many hundredths of the time for a failing order it is shortened, tried again and its
+/// race found.
+const SHORTENED: u32 = 40;
+const TRIED: u32 = 75;
+const NAMED: u32 = 100;
 
 impl Session {
     /// Reports a failing run where none has recorded anything, so that nothing brings it back.
@@ -58,8 +63,10 @@ impl Session {
             ran,
         };
         if !self.has_named_order() {
-            let shortening = Shortening::new(&self.program, 0, failure.clone());
-            failing = shortening.shorten(failing);
+            let until = self.budget.until(SHORTENED);
+            let shortening = Shortening::new(&self.program, 0, failure.clone(), until);
+            let passed = self.passed_near(&failing);
+            failing = shortening.shorten(failing, passed.as_ref());
         }
         let mut found = FailingOrder::new(&failing, task, failure);
         found.run = (first.runs, first.took);
@@ -68,6 +75,9 @@ impl Session {
         self.find_race(&mut failing, journal.as_deref(), &mut found);
         if let Some(journal) = &journal {
             self.put(journal, &failing, &mut found);
+        }
+        if found.is_kept(&failing) {
+            self.keep_order(&failing, &mut found);
         }
         let (counts, search) = (lock(&self.counts), lock(&self.search));
         let asked = self.asked();
@@ -84,7 +94,16 @@ impl Session {
     /// name was told before.
     fn find_race(&self, failing: &mut Failing, journal: Option<&Path>, found: &mut FailingOrder) {
         if !found.is_by_chance() && !self.has_named_order() {
-            found.race = self.race_of(failing, found);
+            let orders = self.race_of(failing, found);
+            found.race = match orders {
+                Ok(orders) => {
+                    let (run, until) = ((journal, &failing.schedule), self.budget.until(NAMED));
+                    found.story = self.story_of(&orders, &found.failure, run, until);
+                    Race::Exchange(orders.race)
+                }
+                Err(Some(tried)) => Race::NonePasses(tried),
+                Err(None) => Race::Unknown,
+            };
         }
         let Some(names) = journal.and_then(names_beside) else {
             return;
@@ -95,42 +114,62 @@ impl Session {
         }
     }
 
-    fn has_named_order(&self) -> bool {
-        matches!(self.settings.from, From::Order(_))
-    }
-
     /// Tries how often the journal brings a failure back, the choices, and the order by its name.
     fn try_again(&self, failing: &Failing, journal: Option<&Path>, found: &mut FailingOrder) {
-        let failure = found.failure.clone();
-        found.by_journal = journal.map(|journal| self.tries(&By::Journal(journal), &failure));
+        let (failure, until) = (found.failure.clone(), self.budget.until(TRIED));
         let path = self.program.folder.join("found");
         if fs::write(&path, failing.schedule.text()).is_ok() {
             let order = found.following(&path);
-            found.by_schedule = self.tries(&By::Order(&order), &failure);
+            found.by_schedule = self.tries(&By::Order(&order), &failure, until);
         }
         let order = found.order_again().clone();
-        found.by_order = self.tries(&By::Order(&order), &failure);
+        found.by_order = self.tries(&By::Order(&order), &failure, until);
+        let by_journal = |journal| self.tries(&By::Journal(journal), &failure, until);
+        found.by_journal = journal.map(by_journal);
         if found.is_by_chance() {
-            found.by_order = self.all_tries(&By::Order(&order), &failure, found.by_order);
+            found.by_order = self.all_tries(&By::Order(&order), &failure, found.by_order, until);
         }
     }
 
-    /// Looks for the two steps that make the difference to a run that passes.
-    fn race_of(&self, failing: &Failing, found: &FailingOrder) -> Race {
+    /// Returns the run nearest to this one that has passed.
+    fn passed_near(&self, failing: &Failing) -> Option<PassedRun> {
+        let (steps, has_timers) = (&failing.schedule.steps, failing.order.has_timers);
+        lock(&self.passed).nearest(steps, has_timers).cloned()
+    }
+
+    /// Looks for the two steps that make the difference to a run that passes. If none of some other
+    /// orders passes, it returns how many these were.
+    fn race_of(
+        &self,
+        failing: &Failing,
+        found: &FailingOrder,
+    ) -> Result<ExchangedOrders, Option<usize>> {
         let has_timers = failing.order.has_timers;
-        let nearest = lock(&self.passed)
-            .nearest(&failing.schedule.steps, has_timers)
-            .cloned();
-        let passed = match nearest.map_or_else(|| self.another(&failing.order), Ok) {
+        let passed = match self
+            .passed_near(failing)
+            .map_or_else(|| self.another(&failing.order), Ok)
+        {
             Ok(passed) => passed,
-            Err(tried) => return Race::NonePasses(tried),
+            Err(tried) => return Err(Some(tried)),
         };
         let fails_each_time = found.by_schedule.failed == found.by_schedule.of;
         let failure = found.failure.clone();
-        let search = ExchangeSearch::new(&self.program, failure, has_timers, fails_each_time);
-        search
-            .find(failing, &passed)
-            .map_or(Race::Unknown, Race::Exchange)
+        let until = self.budget.until(NAMED);
+        let search =
+            ExchangeSearch::new(&self.program, failure, has_timers, fails_each_time, until);
+        search.find(failing, &passed).ok_or(None)
+    }
+
+    /// Keeps the order in a file of the test, by which it is made again.
+    fn keep_order(&self, failing: &Failing, found: &mut FailingOrder) {
+        let beside = found.journal.clone();
+        let path = beside.unwrap_or_else(|| files::folder().join(files::file_name(&self.name)));
+        let text = failing.schedule.text();
+        let order = [("order", Some(text.as_bytes()))];
+        match files::replace(&path, 0, &order) {
+            Ok(path) => found.kept_order = Some(path.with_extension("order")),
+            Err(error) => say(&format!("{} isn't written: {error}", path.display())),
+        }
     }
 
     /// Returns a run that passes, by one of some other orders than this one, or how many were tried
@@ -147,7 +186,7 @@ impl Session {
                 continue;
             };
             tried += 1;
-            let ran = self.program.run(&By::Order(&order), 0, TIME_OF_TRY);
+            let ran = self.program.try_run(&By::Order(&order), 0, TIME_OF_TRY);
             let ran = ran.ok().filter(|ran| ran.failure.is_none());
             if let Some(schedule) = ran.and_then(|ran| ran.schedule) {
                 return Ok(PassedRun {

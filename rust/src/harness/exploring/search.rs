@@ -1,5 +1,5 @@
-//! Which order a run is made by, one after the other: a search of those with no switch and with
-//! one, and then seeds of the other strategies.
+//! Which order a run is made by, one after the other: a search of those with few switches, and in
+//! turn with it seeds of the other strategies.
 
 use super::settings::From;
 use crate::schedule::explore::{Order, OrderKind, Schedule, Turn};
@@ -9,7 +9,7 @@ use std::collections::VecDeque;
 const ORDERS_KEPT: usize = 100_000;
 
 /// How many switches the search has at most.
-const SWITCHES: usize = 1;
+pub(super) const SWITCHES: usize = 3;
 
 /// How many runs show whether a test waits for timers that was kept busy.
 const LOOKS_FOR_TIMERS: u64 = 8;
@@ -29,9 +29,13 @@ pub(super) struct Search {
     /// How many orders of the search are being run, and how many passed, by their switches.
     in_flight: [usize; SWITCHES + 1],
     pub(super) passed: [u64; SWITCHES + 1],
-    /// Whether there were more orders than are kept.
-    is_cut: bool,
+    /// How many were found beyond those that are kept, and whether some have more switches than the
+    /// search has.
+    not_kept: [u64; SWITCHES + 1],
+    has_more_switches: bool,
     next_seed: u64,
+    /// Whether the last order was one of a seed.
+    was_seed: bool,
     /// The next seed of the strategy that is guided, if there is one, and how many orders were
     /// handed out since its last one.
     next_guided: Option<u64>,
@@ -64,11 +68,13 @@ impl Search {
         Search {
             left: runs,
             left_of_search,
-            waiting: [VecDeque::from([Vec::new()]), VecDeque::new()],
+            waiting: first_to_try(),
             in_flight: [0; SWITCHES + 1],
             passed: [0; SWITCHES + 1],
-            is_cut: false,
+            not_kept: [0; SWITCHES + 1],
+            has_more_switches: false,
             next_seed,
+            was_seed: true,
             next_guided: is_guided.then_some(next_seed),
             // The first run says what the others need to know.
             since_guided: BETWEEN_GUIDED - 1,
@@ -96,19 +102,10 @@ impl Search {
                 switches: None,
             });
         }
-        if self.left_of_search > 0 {
-            for switches in 0..=SWITCHES {
-                let Some(steps) = self.waiting[switches].pop_front() else {
-                    continue;
-                };
-                self.left_of_search -= 1;
-                self.in_flight[switches] += 1;
-                return Some(Task {
-                    order: self.order(OrderKind::Steps(steps)),
-                    switches: Some(switches),
-                });
-            }
+        if let Some(task) = self.searched() {
+            return Some(task);
         }
+        self.was_seed = true;
         let seed = self.next_seed;
         self.next_seed += 1;
         let steps = self.choices;
@@ -129,6 +126,22 @@ impl Search {
         Some(Task {
             order: self.order(kind),
             switches: None,
+        })
+    }
+
+    /// Returns an order of the search, if it is its turn, and it has one.
+    fn searched(&mut self) -> Option<Task> {
+        if self.left_of_search == 0 || !self.was_seed {
+            return None;
+        }
+        let switches = (0..=SWITCHES).find(|it| !self.waiting[*it].is_empty())?;
+        let steps = self.waiting[switches].pop_front()?;
+        self.was_seed = false;
+        self.left_of_search -= 1;
+        self.in_flight[switches] += 1;
+        Some(Task {
+            order: self.order(OrderKind::Steps(steps)),
+            switches: Some(switches),
         })
     }
 
@@ -198,6 +211,11 @@ impl Search {
         })
     }
 
+    /// Whether no run is to show any more if the test waits for timers.
+    pub(super) fn has_seen_timers(&self) -> bool {
+        self.has_timers || self.looks_for_timers == 0
+    }
+
     /// Makes time a choice from here on, so that the search begins again.
     pub(super) fn offer_time(&mut self) {
         if self.has_timers {
@@ -205,7 +223,10 @@ impl Search {
         }
         self.has_timers = true;
         self.passed = [0; SWITCHES + 1];
-        self.waiting = [VecDeque::from([Vec::new()]), VecDeque::new()];
+        self.not_kept = [0; SWITCHES + 1];
+        self.has_more_switches = false;
+        self.waiting = first_to_try();
+        self.was_seed = true;
     }
 
     /// Notes that a run says nothing of its order.
@@ -222,12 +243,13 @@ impl Search {
         for (at, step) in numbered.filter(|(_, step)| step.count > 1) {
             let switches = switches + usize::from(step.turn != Turn::Free);
             if switches > SWITCHES {
+                self.has_more_switches = true;
                 continue;
             }
             for other in 1..step.count {
                 if self.waiting[switches].len() >= ORDERS_KEPT {
-                    self.is_cut = true;
-                    return;
+                    self.not_kept[switches] += 1;
+                    continue;
                 }
                 let mut steps = steps.clone();
                 steps.push((at as u32, other));
@@ -238,18 +260,28 @@ impl Search {
 
     /// Returns how many switches there are at most in the orders that were all tried.
     pub(super) fn all_with_at_most(&self) -> Option<usize> {
-        let is_done = |switches: usize| {
-            !self.is_cut && self.waiting[switches].is_empty() && self.in_flight[switches] == 0
-        };
-        let done = (0..=SWITCHES).take_while(|switches| is_done(*switches));
+        let done = (0..=SWITCHES).take_while(|switches| self.waiting(*switches) == 0);
         done.last().filter(|_| self.passed[0] > 0)
+    }
+
+    /// Whether all orders that there are were tried.
+    pub(super) fn is_complete(&self) -> bool {
+        self.all_with_at_most() == Some(SWITCHES) && !self.has_more_switches
     }
 
     /// Returns how many orders are yet to be tried that have this many switches, as far as they are
     /// known.
     pub(super) fn waiting(&self, switches: usize) -> usize {
-        self.waiting[switches].len() + self.in_flight[switches]
+        let unkept = self.not_kept[switches] as usize;
+        self.waiting[switches].len() + self.in_flight[switches] + unkept
     }
+}
+
+/// What is to be tried where nothing was: the order without a switch.
+fn first_to_try() -> [VecDeque<Steps>; SWITCHES + 1] {
+    let mut waiting: [VecDeque<Steps>; SWITCHES + 1] = Default::default();
+    waiting[0].push_back(Vec::new());
+    waiting
 }
 
 #[cfg(test)]
@@ -281,19 +313,40 @@ mod tests {
     }
 
     #[test]
-    fn orders_with_no_switch_come_first_then_those_with_one_and_then_seeds() {
+    fn the_search_begins_with_no_switch_and_seeds_come_in_turn_with_it() {
         let schedule = schedule(&[(2, Turn::Free), (3, Turn::Same), (1, Turn::Same)]);
         let mut search = Search::new(12, &From::Start, false);
         let names = names(&mut search, &schedule);
         assert_eq!(
             names,
             [
-                "s", "s0.1", "s1.1", "s1.2", "s0.1-1.1", "s0.1-1.2", "r0", "p2.1.2", "p3.2.2",
-                "o3", "r4", "p2.5.2"
+                "s", "r0", "s0.1", "p2.1.2", "s1.1", "p3.2.2", "s1.2", "o3", "s0.1-1.1", "r4",
+                "s0.1-1.2", "p2.5.2"
             ]
         );
-        assert_eq!(search.passed, [2, 4]);
-        assert_eq!(search.all_with_at_most(), Some(1));
+        assert_eq!(search.passed, [2, 4, 0, 0]);
+        assert_eq!(search.all_with_at_most(), Some(SWITCHES));
+        assert!(search.is_complete());
+    }
+
+    #[test]
+    fn orders_with_more_switches_follow_those_with_fewer() {
+        let schedule = schedule(&[(2, Turn::Same), (2, Turn::Same)]);
+        let mut search = Search::new(20, &From::Start, false);
+        let names = names(&mut search, &schedule);
+        let of_search: Vec<_> = names.iter().filter(|name| name.starts_with('s')).collect();
+        assert_eq!(of_search, ["s", "s0.1", "s1.1", "s0.1-1.1"]);
+        assert_eq!(search.passed, [1, 2, 1, 0]);
+        assert!(search.is_complete());
+    }
+
+    #[test]
+    fn a_search_with_more_switches_than_it_has_is_not_complete() {
+        let schedule = schedule(&[(2, Turn::Same); SWITCHES + 1]);
+        let mut search = Search::new(100, &From::Start, false);
+        names(&mut search, &schedule);
+        assert_eq!(search.all_with_at_most(), Some(SWITCHES));
+        assert!(!search.is_complete());
     }
 
     #[test]
@@ -302,7 +355,7 @@ mod tests {
         let mut search = Search::new(8, &From::Start, false);
         names(&mut search, &schedule);
         assert_eq!(search.all_with_at_most(), Some(0));
-        assert!(search.waiting(1) > 0);
+        assert!(search.waiting(1) > 0 && !search.is_complete());
     }
 
     #[test]
@@ -311,12 +364,13 @@ mod tests {
         let mut search = Search::new(4, &From::Start, false);
         let first = search.next().unwrap();
         search.passed(&first, &schedule);
+        let _seed = search.next().unwrap();
         // The one order with a switch is run.
         let second = search.next().unwrap();
         assert_eq!(search.waiting(1), 1);
         assert_eq!(search.all_with_at_most(), Some(0));
         search.passed(&second, &schedule);
-        assert_eq!(search.all_with_at_most(), Some(1));
+        assert!(search.is_complete());
     }
 
     #[test]
@@ -326,9 +380,9 @@ mod tests {
         let mut search = Search::new(6, &From::Start, false);
         assert_eq!(
             names(&mut search, &schedule),
-            ["s", "ts", "ts0.1", "tr0", "tp2.1.1", "tp3.2.1"]
+            ["s", "ts", "tr0", "ts0.1", "tp2.1.1", "tp3.2.1"]
         );
-        assert_eq!(search.passed, [1, 1]);
+        assert_eq!(search.passed, [1, 1, 0, 0]);
     }
 
     #[test]
@@ -345,7 +399,7 @@ mod tests {
         search.offer_time();
         assert_eq!(search.order_to_see_timers(), None);
         let rest = names(&mut search, &schedule);
-        assert_eq!(rest, ["ts", "ts0.1", "tr0", "tp2.1.1", "tp3.2.1"]);
+        assert_eq!(rest, ["ts", "tr0", "ts0.1", "tp2.1.1", "tp3.2.1"]);
     }
 
     #[test]
@@ -368,11 +422,11 @@ mod tests {
         assert_eq!(
             names,
             [
-                "s", "g0.2", "s0.1", "s1.1", "s1.2", "g1.2", "s0.1-1.1", "s0.1-1.2", "r0", "g2.2",
-                "p2.1.2", "p3.2.2", "o3", "g3.2"
+                "s", "g0.2", "r0", "s0.1", "p2.1.2", "g1.2", "s1.1", "p3.2.2", "s1.2", "g2.2",
+                "o3", "s0.1-1.1", "r4", "g3.2"
             ]
         );
-        assert_eq!(search.all_with_at_most(), Some(1));
+        assert_eq!(search.all_with_at_most(), Some(0));
     }
 
     #[test]

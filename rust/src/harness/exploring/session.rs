@@ -2,24 +2,24 @@
 
 mod by_time;
 
-use super::answer::{Answer, unknown_in_words};
+use super::budget::SessionBudget;
 use super::counts::{AskedCondition, Counts};
 use super::passed::PassedRuns;
-use super::process::{By, FailureMark, Ran, TIME_OF_RUN, TestProgram, first_words};
+use super::process::{By, FailureMark, Ran, Says, TestProgram, first_words};
 use super::progress::Progress;
 use super::search::{Search, Task};
-use super::settings::{RUNS, Settings};
+use super::settings::{From, RUNS, Settings};
 use crate::channels::lock::lock;
 use crate::channels::standard_error::say;
 use crate::harness::files;
 use crate::harness::program::Program;
-use crate::run::by_text::TextSet;
-use crate::run::listed::IntoList;
 use std::process::Command;
 use std::sync::atomic::{AtomicBool, Ordering};
 use std::sync::{Mutex, PoisonError, RwLock};
-use std::time::{Duration, Instant};
 use std::{env, fs, io, panic, process, thread};
+use yovanelum_record::by_text::TextSet;
+use yovanelum_record::listed::IntoList;
+use yovanelum_record::question::Meets;
 
 /// How many runs tell that nothing is recorded.
 const TELLING_RUNS: u64 = 5;
@@ -121,7 +121,7 @@ pub(super) struct Session {
     pub(super) is_over: AtomicBool,
     /// What a run holds: for itself alone where nothing may run beside it.
     pub(super) room: RwLock<()>,
-    pub(super) began: Instant,
+    pub(super) budget: SessionBudget,
     progress: Progress,
     /// What runs were that have passed.
     pub(super) passed: Mutex<PassedRuns>,
@@ -135,7 +135,17 @@ pub(super) struct FoundRun {
     pub(super) ran: Ran,
     /// How many runs there were with it, and how long it took to find it.
     pub(super) runs: u64,
-    pub(super) took: Duration,
+    pub(super) took: std::time::Duration,
+}
+
+/// What a run counts as.
+#[derive(Clone, Copy, PartialEq, Eq)]
+enum CountsAs {
+    Run,
+    /// It has failed by time, and not by its order.
+    ByTime,
+    /// It had no end, and has one where whoever stands goes on in turn.
+    Endless,
 }
 
 impl FoundRun {
@@ -163,9 +173,15 @@ impl Session {
     fn new(name: &str, test: &str, settings: Settings) -> io::Result<Session> {
         let target = &Program::this().target_folder;
         let folder = target.join(format!("exploring-{}", process::id()));
+        let (program, budget) = (
+            TestProgram::new(test, folder)?,
+            SessionBudget::new(settings.seconds),
+        );
+        program.set_end(budget.end());
         Ok(Session {
             name: name.to_string(),
-            program: TestProgram::new(test, folder)?,
+            program,
+            budget,
             search: Mutex::new(Search::new(
                 settings.runs,
                 &settings.from,
@@ -177,7 +193,6 @@ impl Session {
             failed_by_time: Mutex::default(),
             is_over: AtomicBool::new(false),
             room: RwLock::default(),
-            began: Instant::now(),
             progress: Progress::new(name, settings.runs),
             passed: Mutex::default(),
             is_first: AtomicBool::new(true),
@@ -206,7 +221,7 @@ impl Session {
             }
         });
         let (counts, search) = (lock(&self.counts), lock(&self.search));
-        let elapsed = self.began.elapsed();
+        let elapsed = self.budget.elapsed();
         let asked = self.asked();
         if found.is_none() && has_nothing {
             say(&counts.nothing_in_words(&self.name, None));
@@ -219,7 +234,9 @@ impl Session {
                 say(&format!("{} isn't written: {error}", path.display()));
             }
         }
-        found.is_some() || has_nothing || asked.is_some_and(|asked| !asked.is_there)
+        let is_unexplored = counts.has_one_order() && !self.has_named_order();
+        let is_unknown = asked.is_some_and(|asked| !asked.is_there);
+        found.is_some() || has_nothing || is_unexplored || is_unknown
     }
 
     /// Returns how many processes run beside each other at most.
@@ -243,7 +260,7 @@ impl Session {
             is_there,
             unknown: (!is_there).then(|| {
                 let names: Vec<String> = there.names.iter().map(str::to_string).listed();
-                unknown_in_words(condition, &names)
+                condition.unknown_among(&names)
             }),
         })
     }
@@ -253,10 +270,10 @@ impl Session {
         let mut there = lock(&self.there);
         match &ran.answer {
             None => (),
-            Some(Answer::Met(_) | Answer::NotMet) => there.is_any = true,
-            Some(Answer::Unknown(names)) => {
+            Some(Meets::Met(_) | Meets::NotMet) => there.is_any = true,
+            Some(Meets::Unknown(names)) => {
                 if let (false, Some(condition)) = (there.is_answered, &self.settings.condition) {
-                    let unknown = unknown_in_words(condition, names);
+                    let unknown = condition.unknown_among(names);
                     let name = &self.name;
                     say(&format!("{name}: in its first run {unknown}"));
                 }
@@ -268,33 +285,36 @@ impl Session {
 
     /// Runs the test once. Returns `false` if there is no further run.
     fn step(&self, job: usize) -> bool {
-        let is_late = || {
-            self.settings
-                .seconds
-                .is_some_and(|most| self.began.elapsed() >= most)
-        };
-        if self.is_over.load(Ordering::Relaxed) || is_late() {
+        if self.is_over.load(Ordering::Relaxed) || self.budget.is_search_over() {
             return false;
         }
         self.see_timers(job);
         let Some(task) = lock(&self.search).next() else {
             return false;
         };
-        let Some((ran, is_by_time)) = self.run_of(&task, job) else {
+        let Some((ran, counts_as)) = self.run_of(&task, job) else {
             return false;
         };
         self.note(&ran);
-        if is_by_time {
-            return self.goes_on_after(task, ran);
+        match counts_as {
+            CountsAs::Run => (),
+            CountsAs::ByTime => return self.goes_on_after(task, ran),
+            CountsAs::Endless => {
+                lock(&self.search).said_nothing(&task);
+                lock(&self.counts).endless += 1;
+                return true;
+            }
         }
         let Some(schedule) = ran.schedule.as_ref() else {
             return self.end_without_schedule(task, ran);
         };
         let mut counts = lock(&self.counts);
         counts.add(&task, schedule);
-        self.progress.show(&counts, self.began.elapsed());
-        let is_pointless = counts.have_nothing() && counts.runs >= TELLING_RUNS;
+        self.progress.show(&counts, self.budget.elapsed());
+        let is_told = counts.runs >= TELLING_RUNS;
+        let (has_nothing, has_one_order) = (counts.have_nothing(), counts.has_one_order());
         drop(counts);
+        let is_pointless = is_told && (has_nothing || has_one_order && self.has_seen_timers());
         if is_pointless {
             self.is_over.store(true, Ordering::Relaxed);
         }
@@ -307,37 +327,65 @@ impl Session {
         true
     }
 
-    /// Makes the run of a task, and returns whether it has failed by time. What fails beside others
-    /// counts if it fails alone too. Returns `None` if the session is over.
-    fn run_of(&self, task: &Task, job: usize) -> Option<(Ran, bool)> {
-        let (ran, was_alone) = self.run_by(&By::Order(&task.order), job);
-        if ran.failure.is_none() {
-            return Some((ran, false));
+    /// Whether runs have shown if the test waits for timers, as far as they do.
+    fn has_seen_timers(&self) -> bool {
+        lock(&self.search).has_seen_timers()
+    }
+
+    /// Whether the session runs an order that is asked for by its name.
+    pub(super) fn has_named_order(&self) -> bool {
+        matches!(self.settings.from, From::Order(_))
+    }
+
+    /// Makes the run of a task, and returns what it counts as. What fails beside others counts if
+    /// it fails alone too. Returns `None` if the session is over.
+    fn run_of(&self, task: &Task, job: usize) -> Option<(Ran, CountsAs)> {
+        let (ran, was_alone) = self.run_by(&By::Order(&task.order), job)?;
+        let Some(failure) = &ran.failure else {
+            return Some((ran, CountsAs::Run));
+        };
+        if failure.is_no_end() && self.ends_in_turn(task, job) {
+            return Some((ran, CountsAs::Endless));
         }
         if self.is_by_time(&ran, job) {
-            return Some((ran, true));
+            return Some((ran, CountsAs::ByTime));
         }
         let ran = if was_alone {
             ran
         } else {
             self.run_alone(task, ran, job)?
         };
-        Some((ran, false))
+        Some((ran, CountsAs::Run))
     }
 
-    /// Runs the test once. Returns whether nothing ran beside it, too.
-    fn run_by(&self, by: &By<'_>, job: usize) -> (Ran, bool) {
-        let run = || {
-            let ran = self.program.run(by, job, TIME_OF_RUN);
-            ran.unwrap_or_else(|error| panic!("yovanelum: a run can't be started: {error}"))
+    /// Whether a run that had no end passes where whoever stands goes on in turn.
+    fn ends_in_turn(&self, task: &Task, job: usize) -> bool {
+        let (name, order) = (&self.name, &task.order);
+        say(&format!(
+            "{name}: {order} had no end; it is tried again where all who stand go on in turn"
+        ));
+        let again = self.run_by(&By::Fair(order), job);
+        again.is_some_and(|(ran, _)| ran.failure.is_none())
+    }
+
+    /// Runs the test once. Returns whether nothing ran beside it, too, or nothing if the session's
+    /// time is over.
+    fn run_by(&self, by: &By<'_>, job: usize) -> Option<(Ran, bool)> {
+        let run = || match self
+            .program
+            .run(by, Says::All, job, self.program.time_of_run())
+        {
+            Ok(ran) => Some(ran).filter(|ran| !ran.is_cut),
+            Err(error) if error.kind() == io::ErrorKind::TimedOut => None,
+            Err(error) => panic!("yovanelum: a run can't be started: {error}"),
         };
         let beside = self.room.read().unwrap_or_else(PoisonError::into_inner);
         if !self.is_one_at_a_time() {
-            return (run(), false);
+            return Some((run()?, false));
         }
         drop(beside);
         let _alone = self.room.write().unwrap_or_else(PoisonError::into_inner);
-        (run(), true)
+        Some((run()?, true))
     }
 
     /// Ends with a run that fails. It is told at once if its order is to be tried again.
@@ -349,11 +397,13 @@ impl Session {
         let mut found = lock(&self.found);
         if found.is_none() {
             self.progress.clear();
+            self.budget.note_found();
+            self.program.set_end(self.budget.end());
             let first = FoundRun {
                 task,
                 ran,
                 runs,
-                took: self.began.elapsed(),
+                took: self.budget.elapsed(),
             };
             if !has_nothing && first.ran.schedule.is_some() {
                 say(&format!("{}: {}", self.name, first.in_words()));

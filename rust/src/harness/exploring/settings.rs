@@ -1,12 +1,12 @@
 //! The variables that say how a test is explored.
 
 use crate::harness::automatic::is_under_command;
-use crate::run::debugger::named::NamedCondition;
 use crate::schedule::explore::{Order, POINTS, condition, has_points, is_time_offered};
 use std::env;
 use std::path::PathBuf;
 use std::thread;
 use std::time::Duration;
+use yovanelum_record::conditions::NamedCondition;
 
 /// The variable that says how many runs are made.
 pub(in crate::harness) const RUNS: &str = "YOVANELUM_EXPLORE";

@@ -1,16 +1,16 @@
 //! How often a failing run fails again, and whether it does where nothing runs beside it.
 
-use super::process::{By, FailureMark, Ran, TIME_OF_RUN, first_words};
+use super::process::{By, FailureMark, Ran, Says, first_words};
 use super::search::Task;
 use super::session::{Session, on_threads};
 use crate::channels::lock::lock;
 use crate::channels::standard_error::say;
 use crate::schedule::explore::{Order, OrderKind};
 use std::fmt;
-use std::fs;
 use std::sync::PoisonError;
 use std::sync::atomic::{AtomicUsize, Ordering};
-use std::time::Duration;
+use std::time::{Duration, Instant};
+use std::{fs, io};
 
 /// How often the journal and the schedule are tried, and how often where these first tries agree.
 const TRIES: usize = 10;
@@ -27,7 +27,7 @@ pub(super) struct Tries {
 }
 
 impl Tries {
-    fn add(&mut self, has_failed: bool) {
+    pub(super) fn add(&mut self, has_failed: bool) {
         self.failed += usize::from(has_failed);
         self.of += 1;
     }
@@ -56,29 +56,43 @@ impl fmt::Display for Tries {
 
 /// What one try was.
 #[derive(Clone, Copy, PartialEq, Eq)]
-enum OneTry {
+pub(super) enum OneTry {
     FailsAgain,
     Passes,
     FailsOtherwise,
 }
 
 impl Session {
-    /// Tries five times whether a run fails in the same way, and ten times where these don't agree.
-    pub(super) fn tries(&self, by: &By<'_>, failure: &FailureMark) -> Tries {
+    /// Tries five times whether a run fails in the same way, and ten times where these don't agree,
+    /// as long as there is time.
+    pub(super) fn tries(&self, by: &By<'_>, failure: &FailureMark, until: Instant) -> Tries {
         if let Some(tries) = self.tries_beside(by, failure) {
             return tries;
         }
         let mut tries = Tries::default();
         while tries.of < FIRST_TRIES || tries.of < TRIES && !tries.agree() {
-            tries.add(self.one_try(by, failure, 0) == OneTry::FailsAgain);
+            let is_late = tries.of > 0 && Instant::now() >= until;
+            let Some(one) = self.one_try(by, failure, 0).filter(|_| !is_late) else {
+                break;
+            };
+            tries.add(one == OneTry::FailsAgain);
         }
         tries
     }
 
-    /// Adds tries, up to ten.
-    pub(super) fn all_tries(&self, by: &By<'_>, failure: &FailureMark, mut tries: Tries) -> Tries {
-        while tries.of < TRIES {
-            tries.add(self.one_try(by, failure, 0) == OneTry::FailsAgain);
+    /// Adds tries, up to ten, as long as there is time.
+    pub(super) fn all_tries(
+        &self,
+        by: &By<'_>,
+        failure: &FailureMark,
+        mut tries: Tries,
+        until: Instant,
+    ) -> Tries {
+        while tries.of < TRIES && Instant::now() < until {
+            let Some(one) = self.one_try(by, failure, 0) else {
+                break;
+            };
+            tries.add(one == OneTry::FailsAgain);
         }
         tries
     }
@@ -92,12 +106,14 @@ impl Session {
         let (next, all) = (AtomicUsize::new(0), std::sync::Mutex::new(Vec::new()));
         on_threads(self.jobs().min(FIRST_TRIES), &|job| {
             while next.fetch_add(1, Ordering::Relaxed) < FIRST_TRIES {
-                let one = self.one_try(by, failure, job);
-                lock(&all).push(one);
+                if let Some(one) = self.one_try(by, failure, job) {
+                    lock(&all).push(one);
+                }
             }
         });
         let all = all.into_inner().unwrap_or_else(PoisonError::into_inner);
-        let same = |which| all.iter().all(|one| *one == which);
+        let is_whole = all.len() == FIRST_TRIES;
+        let same = |which| is_whole && all.iter().all(|one| *one == which);
         let failed = if same(OneTry::FailsAgain) {
             FIRST_TRIES
         } else {
@@ -109,11 +125,13 @@ impl Session {
         })
     }
 
-    fn one_try(&self, by: &By<'_>, failure: &FailureMark, job: usize) -> OneTry {
-        match self.program.run(by, job, TIME_OF_TRY) {
-            Ok(ran) if ran.failure.as_ref() == Some(failure) => OneTry::FailsAgain,
-            Ok(ran) if ran.failure.is_none() => OneTry::Passes,
-            _ => OneTry::FailsOtherwise,
+    /// Makes one try. Returns `None` if the time of the session is over.
+    pub(super) fn one_try(&self, by: &By<'_>, failure: &FailureMark, job: usize) -> Option<OneTry> {
+        match self.program.try_run(by, job, TIME_OF_TRY) {
+            Ok(ran) if ran.failure.as_ref() == Some(failure) => Some(OneTry::FailsAgain),
+            Ok(ran) if ran.failure.is_none() => Some(OneTry::Passes),
+            Err(error) if error.kind() == io::ErrorKind::TimedOut => None,
+            _ => Some(OneTry::FailsOtherwise),
         }
     }
 
@@ -125,7 +143,11 @@ impl Session {
         if self.is_over.load(Ordering::Relaxed) {
             return None;
         }
-        let run = |by: &By<'_>| self.program.run(by, job, TIME_OF_RUN).ok();
+        let most = self.program.time_of_run();
+        let run = |by: &By<'_>| {
+            let ran = self.program.run(by, Says::All, job, most).ok();
+            ran.filter(|ran| !ran.is_cut)
+        };
         let again = run(&By::Order(&task.order))?;
         if again.failure.is_some() || self.fails_by_its_files(task, &ran, &run) {
             return Some(if again.failure.is_some() { again } else { ran });

@@ -3,8 +3,8 @@
 use crate::channels::cut::start_of;
 use crate::harness::automatic::PASSED;
 use crate::harness::replaying::REPLAYED;
-use crate::run::sidecar::checksum;
 use std::fmt::Write;
+use yovanelum_record::sidecar::checksum;
 
 /// How many bytes a name has at most. Systems take 143 at least, and endings follow.
 const MOST_BYTES: usize = 100;

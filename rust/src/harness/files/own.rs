@@ -2,12 +2,12 @@
 //! same time, or another recorder of this one. Each keeps its own.
 
 use crate::channels::lock::lock;
-use crate::run::by_text::TextMap;
-use crate::run::listed::IntoList;
 use std::fs;
 use std::path::{Path, PathBuf};
 use std::sync::{Mutex, OnceLock};
 use std::time::{Duration, SystemTime};
+use yovanelum_record::by_text::TextMap;
+use yovanelum_record::listed::IntoList;
 
 /// How many of the same name keep their files. More of them replace those of the last.
 const MOST_OF_A_NAME: usize = 16;

@@ -95,7 +95,9 @@ impl DumpTo {
     /// The first recorder of a process that does so sets a hook for panics, which calls the
     /// previous hook after it. If the thread is the main one, or the process ends with the panic,
     /// the hook waits for the dump, 5 seconds at most. What that thread has locked is left out.
-    /// Each panic has a dump, unless 8 such ones are not yet written.
+    /// The first panic at each place in the sources has a dump, and further ones have at most one
+    /// within [`at_most_every`](DumpTo::at_most_every), but for the one that ends the process.
+    /// There is none if 8 such ones are not yet written.
     ///
     /// # Examples
     ///
@@ -111,7 +113,8 @@ impl DumpTo {
     }
 
     /// Begins no dump for a lag within this time after the last one for a lag, and so for channels
-    /// that close. Panics have one in any case, and so has who [asks](crate::Recorder::dump).
+    /// that close and for panics at one place. Who [asks](crate::Recorder::dump) has one in any
+    /// case.
     /// Without this call it is a minute.
     ///
     /// # Examples
@@ -127,12 +130,13 @@ impl DumpTo {
         self.set(|settings| settings.at_most_every = time)
     }
 
-    /// Keeps the last `dumps` dumps of the folder, and removes older ones, whichever process has
-    /// written them. Dumps that have a later time than now are removed first, since the
-    /// clock was set back. Without this call 16 are kept. One is kept at least.
+    /// Keeps the last `dumps` dumps of the folder for lags, as many for closes, for panics and for
+    /// requests, and removes older ones, whichever process has written them. Dumps that have a
+    /// later time than now are removed first, since the clock was set back. Without this call 16 of
+    /// each are kept. One is kept at least.
     ///
-    /// What is left of a dump that was never whole, since its process was killed, doesn't count. It
-    /// is removed once it is ten minutes old.
+    /// What is left of a dump that was never whole, since its process was killed, doesn't count.
+    /// The next dump removes it on Linux, and elsewhere one that comes ten minutes later.
     ///
     /// # Examples
     ///

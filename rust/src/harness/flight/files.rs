@@ -7,17 +7,17 @@ pub(super) use kept::keep;
 
 use crate::channels::atomic::AtomicU64;
 use crate::harness::files::beside;
-use crate::run::clock::date;
 use std::path::{Path, PathBuf};
 use std::sync::atomic::Ordering;
 use std::{fs, io, process};
+use yovanelum_record::clock::date;
 
 /// What the names of all dumps begin with.
 pub(super) const START: &str = "flight-";
 
-/// Returns the name of a dump that is begun at this time, in milliseconds since 1970, without its
-/// ending. Names are in the order of their times.
-pub(super) fn name(at: Option<u64>) -> String {
+/// Returns the name of a dump that this trigger begins at this time, in milliseconds since 1970,
+/// without its ending. Names are in the order of their times.
+pub(super) fn name(at: Option<u64>, trigger: &str) -> String {
     static NEXT: AtomicU64 = AtomicU64::new(1);
     let number = NEXT.fetch_add(1, Ordering::Relaxed);
     let process = if cfg!(target_family = "wasm") {
@@ -26,7 +26,7 @@ pub(super) fn name(at: Option<u64>) -> String {
         process::id()
     };
     format!(
-        "{START}{}-{process}-{number}",
+        "{START}{}-{process}-{number}-{trigger}",
         time_in_digits(at.unwrap_or_default())
     )
 }

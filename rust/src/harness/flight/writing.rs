@@ -8,14 +8,14 @@ use crate::harness::program::Program;
 use crate::harness::saved::{Copied, text_of};
 use crate::harness::window_names::raise_ending;
 use crate::harness::windows::Most;
-use crate::run::clock::{Moment, wall};
-use crate::run::listed::PushAll;
-use crate::run::sidecar::Sidecar;
-use crate::run::sorting::sort_by_key;
 use std::collections::TryReserveError;
 use std::io;
 use std::path::PathBuf;
 use std::sync::Mutex;
+use yovanelum_record::clock::{Moment, wall};
+use yovanelum_record::listed::PushAll;
+use yovanelum_record::sidecar::Sidecar;
+use yovanelum_record::sorting::sort_by_key;
 
 /// Held while a dump of this process is made and written, so that no two have their memory at once.
 /// Their calls are copied before.
@@ -34,7 +34,9 @@ pub(super) fn write(request: &mut DumpRequest) -> io::Result<PathBuf> {
     // What the names have of a call is shorter than what the journal has.
     json.try_reserve(journal.len()).map_err(no_memory)?;
     names.push_json(&mut json);
-    let path = request.folder.join(files::name(request.why.at));
+    let path = request
+        .folder
+        .join(files::name(request.why.at, request.why.trigger));
     let path = files::write(&path, &journal, &json)?;
     files::keep(&path, request.keep, wall());
     Ok(path)

@@ -3,10 +3,10 @@
 use super::options::{self, Speaker};
 use super::{Program, TargetKind};
 use crate::harness::stand_in;
-use crate::run::listed::IntoList;
 use std::path::Path;
 use std::sync::OnceLock;
 use std::{env, fs};
+use yovanelum_record::listed::IntoList;
 
 /// Variables by which cargo and rustc are told what to build. Tests have those of cargo.
 const VARIABLES: [&str; 4] = [

@@ -1,8 +1,8 @@
 //! The build target that a program was made from.
 
-use crate::run::listed::IntoList;
 use std::path::{Component, Path, PathBuf};
 use std::{env, fs};
+use yovanelum_record::listed::IntoList;
 
 /// What kind of target it is.
 #[derive(Clone, Copy, Debug, PartialEq, Eq)]

@@ -1,10 +1,10 @@
 //! The paths of functions, read in their sources. A build with `debug = "line-tables-only"` has the
 //! lines of a stack, and of many functions a name without its path, such as `{async_fn#0}`.
 
-use crate::run::by_text::TextMap;
-use crate::run::listed::IntoList;
 use std::fs;
 use std::path::Path;
+use yovanelum_record::by_text::TextMap;
+use yovanelum_record::listed::IntoList;
 
 /// What may stand before the keyword of a function, beside its visibility and its ABI.
 const QUALIFIERS: [&str; 6] = ["pub", "default", "const", "async", "unsafe", "extern"];

@@ -4,9 +4,9 @@
 
 use super::functions::ReadSources;
 use crate::harness::stacks::without_hash;
-use crate::run::listed::IntoList;
 use std::backtrace::Backtrace;
 use std::path::Path;
+use yovanelum_record::listed::IntoList;
 
 /// The functions of libraries that poll another future, and aren't what a task waits for.
 const PASS_ON: [&str; 12] = [

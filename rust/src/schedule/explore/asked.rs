@@ -1,7 +1,7 @@
 //! What a test is explored for, if not for a failure alone: a condition by names.
 
-use crate::run::debugger::named::NamedCondition;
 use std::env;
+use yovanelum_record::conditions::NamedCondition;
 
 /// The variable that has the condition.
 pub(crate) const FOR: &str = "YOVANELUM_EXPLORE_FOR";

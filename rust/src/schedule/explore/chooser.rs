@@ -1,15 +1,17 @@
 //! Who is let go next, by the strategy of an order.
 
 use super::asked::FOR;
+use super::fairness::PassedOver;
 use super::guide::Guide;
 use super::order::{Order, OrderKind};
 use super::random::{Random, hashed};
 use super::schedule::{Schedule, Step, What};
-use crate::run::by_text::TextMap;
-use crate::run::listed::IntoList;
-use crate::run::numbered::NumberMap;
 use std::io;
 use std::sync::Arc;
+use std::time::Duration;
+use yovanelum_record::by_text::TextMap;
+use yovanelum_record::listed::IntoList;
+use yovanelum_record::numbered::NumberMap;
 
 /// One who stands, and may be let go.
 pub(super) struct Candidate {
@@ -17,6 +19,12 @@ pub(super) struct Candidate {
     pub(super) what: What,
     /// The number of its stand, which no other one has.
     pub(super) number: u64,
+    pub(super) passed_over: PassedOver,
+}
+
+impl Candidate {
+    /// The number of time.
+    pub(super) const TIME: u64 = u64::MAX;
 }
 
 /// Chooses among those who stand.
@@ -58,7 +66,12 @@ impl Chooser {
                 let guide = Guide::new(*seed, *steps);
                 Chooser::Guided(guide.ok_or_else(|| io::Error::other(format!("{FOR} isn't set")))?)
             }
-            OrderKind::File(path) => Chooser::Follow(Follow::new(Schedule::of_file(path)?.steps)),
+            OrderKind::File(path) => {
+                let schedule = Schedule::of_file(path)?;
+                let mut follow = Follow::new(schedule.steps);
+                follow.clock = schedule.clock;
+                Chooser::Follow(follow)
+            }
         })
     }
 
@@ -78,6 +91,15 @@ impl Chooser {
             Chooser::Pos { random, priorities } => by_sampling(random, priorities, candidates),
             Chooser::Guided(guide) => guide.choose(candidates),
             Chooser::Follow(follow) => follow.choose(candidates),
+        }
+    }
+
+    /// Returns who makes the next step of the schedule that is followed, and the time of the run's
+    /// clock then, if the schedule says it.
+    pub(super) fn time(&self) -> Option<(&Arc<str>, Duration)> {
+        match self {
+            Chooser::Follow(follow) => follow.time(),
+            _ => None,
         }
     }
 
@@ -171,6 +193,8 @@ pub(super) struct Follow {
     front: usize,
     count: u32,
     diverged: Option<u32>,
+    /// The time of the run's clock at those steps where it has gone on.
+    clock: Vec<(u32, Duration)>,
 }
 
 /// How far ahead of the first step that is yet to be made others are looked for.
@@ -184,7 +208,17 @@ impl Follow {
             front: 0,
             count: 0,
             diverged: None,
+            clock: Vec::new(),
         }
+    }
+
+    fn time(&self) -> Option<(&Arc<str>, Duration)> {
+        let who = &self.steps.get(self.front)?.who;
+        let behind = self
+            .clock
+            .partition_point(|(step, _)| *step as usize <= self.front);
+        let (_, time) = self.clock.get(behind.checked_sub(1)?)?;
+        Some((who, *time))
     }
 
     fn choose(&mut self, candidates: &[Candidate]) -> usize {
@@ -231,6 +265,7 @@ mod tests {
             who: (*who).into(),
             what: What::Poll,
             number,
+            passed_over: PassedOver::default(),
         };
         (0..).zip(who).map(candidate).collect()
     }
@@ -273,6 +308,21 @@ mod tests {
         assert!(all.iter().all(|count| *count <= 1), "{all:?}");
         // At the first choice a change isn't seen, and that is one of ten.
         assert!(all.iter().sum::<usize>() > 25, "{all:?}");
+    }
+
+    #[test]
+    fn a_schedule_says_the_time_of_its_next_step() {
+        let step = |who: &&str| Step::poll_of(who, Turn::Free);
+        let mut follow = Follow::new(["a", "b", "a"].iter().map(step).collect());
+        let time = Duration::from_millis(40);
+        follow.clock = vec![(1, time)];
+        assert_eq!(follow.time(), None);
+        follow.choose(&standing(&["a", "b"]));
+        assert_eq!(follow.time(), Some((&"b".into(), time)));
+        follow.choose(&standing(&["a", "b"]));
+        assert_eq!(follow.time(), Some((&"a".into(), time)));
+        follow.choose(&standing(&["a", "b"]));
+        assert_eq!(follow.time(), None);
     }
 
     #[test]

@@ -3,11 +3,11 @@
 //! stands still, so that no timer ends since a run is slow.
 
 use super::threads::SOON;
-use crate::run::listed::{IntoList, Keep};
-use crate::run::sorting::sort_by_key;
 use std::mem;
 use std::task::Waker;
 use std::time::{Duration, Instant};
+use yovanelum_record::listed::{IntoList, Keep};
+use yovanelum_record::sorting::sort_by_key;
 
 /// How much time passes at most between two looks at those who wait. On a busy machine the looks
 /// are rarer than that.
@@ -132,6 +132,11 @@ impl TestClock {
     /// Returns how much time passed by choice.
     pub(super) fn chosen(&self) -> Duration {
         self.chosen
+    }
+
+    /// Goes on to this time, as a schedule says.
+    pub(super) fn go_to(&mut self, time: Duration) {
+        self.now = self.now.max(time);
     }
 
     /// Notes that time was let pass.

@@ -12,21 +12,23 @@ use super::spinning::CallInSource;
 use super::stand::{Arrival, ArrivingPoint, Stand};
 use super::state::{ExplorerState, WaitPlaces};
 use super::threads::{OURS, this_thread};
-use crate::channels::actors::{self, is_in_task, last_task, note_facade, set_last_task};
+use crate::channels::actors::{
+    self, is_in_blocked_poll, is_in_task, last_task, note_facade, set_last_task,
+};
 use crate::channels::timers::Timers;
 use crate::channels::turns::{ArrivingCall, Tasks, TestEnd, Ticket, Turns};
 use crate::channels::whereabouts::{PlaceNumber, current_place};
-use crate::run::listed::{Keep, PushAll};
-use crate::run::operation::CallSet;
-use crate::run::sidecar::Maker;
 use crate::schedule::entrance::Entrance;
 use std::cell::OnceCell;
 use std::io;
 use std::sync::atomic::{AtomicU32, Ordering};
-use std::sync::{Arc, PoisonError};
+use std::sync::{Arc, MutexGuard, PoisonError};
 use std::task::{Context, Poll, Waker};
 use std::thread;
 use std::time::{Duration, Instant};
+use yovanelum_record::listed::{Keep, PushAll};
+use yovanelum_record::operation::CallSet;
+use yovanelum_record::sidecar::Maker;
 
 /// What the name of a thread begins with that runs any task of tokio.
 const WORKER: &str = "tokio-runtime-worker";
@@ -82,6 +84,16 @@ impl Explorer {
         }
         let mut state = self.entrance.enter();
         let who = who(&mut state);
+        self.wait_as(state, who, arrival)
+    }
+
+    /// Blocks until this caller is let go. Returns `false` if all calls pass.
+    fn wait_as(
+        &self,
+        mut state: MutexGuard<'_, ExplorerState>,
+        who: Arc<str>,
+        arrival: Arrival,
+    ) -> bool {
         state.moved();
         let stand = state.add(who, arrival);
         let (number, own) = (stand.number, stand.own.clone());
@@ -144,6 +156,28 @@ impl Explorer {
             }
         }
         (PollOutcome::HeldAwake, Some(waker))
+    }
+
+    /// Whether the poll of a task is held back, or of what a thread blocks on. Then it is woken
+    /// later.
+    fn hold_poll(
+        &self,
+        mut state: MutexGuard<'_, ExplorerState>,
+        who: &Arc<str>,
+        waker: Waker,
+    ) -> bool {
+        state.moved();
+        let (polled, left) = self.poll(&mut state, who, waker);
+        if polled != PollOutcome::Goes {
+            self.entrance.keep_awake(state.is_helper_idle);
+        }
+        drop(state);
+        match left {
+            // It wakes itself at once, so that its runtime has something to do.
+            Some(waker) if polled == PollOutcome::HeldAwake => waker.wake(),
+            left => drop(left),
+        }
+        polled != PollOutcome::Goes
     }
 
     /// Lets one go, if all others sleep.
@@ -254,24 +288,46 @@ impl Tasks for Explorer {
         let mut state = self.entrance.enter();
         let who = task.get_or_insert_with(|| state.numbered(name)).clone();
         set_last_task(&who);
-        state.moved();
-        let (polled, left) = self.poll(&mut state, &who, waker);
-        if polled != PollOutcome::Goes {
-            self.entrance.keep_awake(state.is_helper_idle);
-        }
-        drop(state);
-        match left {
-            // It wakes itself at once, so that its runtime has something to do.
-            Some(waker) if polled == PollOutcome::HeldAwake => waker.wake(),
-            left => drop(left),
-        }
-        polled != PollOutcome::Goes
+        self.hold_poll(state, &who, waker)
     }
 
-    fn waits(&self, task: &Arc<str>, at: PlaceNumber) {
+    fn hold_named(&self, future: &mut Option<Arc<str>>, name: &str, context: &Context<'_>) -> bool {
+        if is_in_blocked_poll() && !is_in_task() && !self.entrance.is_over() {
+            self.entrance.enter().note_named(this_thread());
+        }
+        self.hold(future, name, context)
+    }
+
+    fn hold_thread(&self, context: &Context<'_>) -> bool {
+        if self.entrance.is_over() {
+            return false;
+        }
+        let waker = context.waker().clone();
+        let mut state = self.entrance.enter();
+        if state.is_free(this_thread()) {
+            drop(state);
+            return false;
+        }
+        let who = who(&mut state);
+        self.hold_poll(state, &who, waker)
+    }
+
+    fn begin_blocking(&self, task: &mut Option<Arc<str>>, name: &str) {
+        if self.entrance.is_over() {
+            return;
+        }
+        let mut state = self.entrance.enter();
+        let who = task.get_or_insert_with(|| state.numbered(name)).clone();
+        let called = "spawn_blocking";
+        let begins = Arrival::Point(ArrivingPoint { called, at: None });
+        self.wait_as(state, who, begins);
+    }
+
+    fn waits(&self, task: Option<&Arc<str>>, at: PlaceNumber) {
         if !self.entrance.is_over() {
             let mut state = self.entrance.enter();
-            state.wait_places.now.insert(task, at);
+            let who = task.cloned().unwrap_or_else(|| who(&mut state));
+            state.wait_places.now.insert(&who, at);
         }
     }
 

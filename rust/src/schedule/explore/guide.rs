@@ -10,13 +10,13 @@ use super::random::{Random, hashed};
 use super::run;
 use super::schedule::What;
 use crate::channels::channel::Known;
-use crate::run::by_text::TextMap;
-use crate::run::debugger::named::{ConditionSubject, NamedCondition};
-use crate::run::listed::IntoList;
-use crate::run::numbered::NumberSet;
-use crate::run::operation::Operation;
 use call::StandingCall;
 use std::sync::Arc;
+use yovanelum_record::by_text::TextMap;
+use yovanelum_record::conditions::{ConditionSubject, NamedCondition};
+use yovanelum_record::listed::IntoList;
+use yovanelum_record::numbered::NumberSet;
+use yovanelum_record::operation::Operation;
 
 /// What it is to the condition that one goes on.
 #[derive(Clone, Copy, Debug, PartialEq, Eq, PartialOrd, Ord)]

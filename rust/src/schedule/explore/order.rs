@@ -1,8 +1,8 @@
 //! By what the choices of a run are made, and the text that names it.
 
-use crate::run::listed::{AllListed, IntoList};
 use std::fmt;
 use std::path::PathBuf;
+use yovanelum_record::listed::{AllListed, IntoList};
 
 /// By what the choices of a run are made. Its text names it, as `s12.1` or `p2.17.40`, and is read
 /// again by [`Order::read`].

@@ -13,15 +13,15 @@ use crate::channels::recorder::{Recorder, Shared, is_any_of_none};
 use crate::channels::standard_error::say;
 use crate::channels::turns::{self, Explored};
 use crate::channels::whereabouts::PlaceNumber;
-use crate::run::listed::PushAll;
-use crate::run::numbered::NumberMap;
-use crate::run::sidecar::LeftReplay;
-use crate::run::sorting::sort_by_key;
 use crate::schedule::replay;
 use std::path::{Path, PathBuf};
 use std::sync::{Arc, Mutex, OnceLock, Weak};
 use std::time::Duration;
 use std::{env, fs, io, process};
+use yovanelum_record::listed::PushAll;
+use yovanelum_record::numbered::NumberMap;
+use yovanelum_record::sidecar::LeftReplay;
+use yovanelum_record::sorting::sort_by_key;
 
 /// By what order a run is made.
 pub(crate) const ORDER: &str = "YOVANELUM_EXPLORE_ORDER";
@@ -40,6 +40,12 @@ pub(crate) const PROCESSOR: &str = "YOVANELUM_EXPLORE_PROCESSOR";
 
 /// How many microseconds each step takes at least.
 pub(crate) const PAUSE: &str = "YOVANELUM_EXPLORE_PAUSE";
+
+/// Whether whoever stands goes on in turn, so that nobody waits for long.
+pub(crate) const FAIR: &str = "YOVANELUM_EXPLORE_FAIR";
+
+/// Whether a run that fails says nothing but how.
+pub(crate) const QUIET: &str = "YOVANELUM_EXPLORE_QUIET";
 
 /// Whether time may be chosen.
 const TIME: &str = "YOVANELUM_EXPLORE_TIME";
@@ -90,6 +96,11 @@ pub(crate) struct NamedPlace {
 /// Whether the run of this process is one of a search, and not a replay.
 pub(crate) fn is_run_of_search() -> bool {
     RUN.get().is_some_and(|run| run.followed.is_none())
+}
+
+/// Whether this process is one of those that are explored, whose run may have yet to begin.
+pub(crate) fn is_run_asked_for() -> bool {
+    env::var_os(ORDER).is_some() && is_of_session()
 }
 
 /// Begins a run, if this process is one of those that are explored. Returns `true` if it is.
@@ -168,6 +179,16 @@ fn is_set_to(variable: &str, value: &str) -> bool {
         Some(text) if text == value => true,
         Some(other) => panic!("yovanelum: {variable} is `{other}`, and not `{value}`"),
     }
+}
+
+/// Whether whoever stands goes on in turn.
+pub(super) fn is_fair() -> bool {
+    env::var_os(FAIR).is_some() && is_of_session()
+}
+
+/// Whether this run says nothing but how it fails.
+pub(crate) fn is_quiet() -> bool {
+    env::var_os(QUIET).is_some() && is_of_session()
 }
 
 /// Returns how long each step takes at least.
@@ -283,7 +304,7 @@ pub(crate) fn end(recorder: &Recorder, has_failed: bool, why_nothing: fn() -> St
     };
     let (mut schedule, places) = run.explorer.end(end);
     schedule.note(&recorder.0, why_nothing);
-    if has_failed && run.schedule.is_some() {
+    if has_failed && run.schedule.is_some() && !is_quiet() {
         run.name_places(&mut schedule, &places);
     }
     run.write(&schedule);
@@ -371,12 +392,16 @@ impl ExploredRun {
 pub(super) fn end_hung(schedule: &mut Schedule, places: &WaitPlaces) -> ! {
     schedule.end = RunEnd::Hung;
     if let Some(run) = RUN.get() {
-        run.name_places(schedule, places);
+        if !is_quiet() {
+            run.name_places(schedule, places);
+        }
         if let Some(test) = &*lock(&run.test) {
             if let Some(recorder) = test.recorder.upgrade() {
                 schedule.note(&recorder, test.report.why_nothing);
             }
-            (test.report.hung)(&schedule.waiting);
+            if !is_quiet() {
+                (test.report.hung)(&schedule.waiting);
+            }
         }
         run.write(schedule);
         if let Some((path, steps)) = &run.followed {

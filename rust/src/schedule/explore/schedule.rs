@@ -1,10 +1,11 @@
 //! The schedule of a run: who was let go, one after the other. Its file is text, one line for each.
 
-use crate::run::listed::IntoList;
 use std::fmt::Write as _;
 use std::path::Path;
 use std::sync::Arc;
+use std::time::Duration;
 use std::{fs, io};
+use yovanelum_record::listed::IntoList;
 
 /// The first line of the file.
 const FIRST_LINE: &str = "yovanelum schedule 1";
@@ -117,6 +118,8 @@ pub(crate) struct Schedule {
     /// The names of channels by number.
     pub(crate) channels: Vec<(u32, String)>,
     pub(crate) steps: Vec<Step>,
+    /// The time of the run's clock at those steps where it isn't that of the step before.
+    pub(crate) clock: Vec<(u32, Duration)>,
     /// Where tasks wait at the end of a run that fails.
     pub(crate) waiting: Vec<WaitingTask>,
 }
@@ -150,7 +153,16 @@ impl Schedule {
             journal: None,
             channels: Vec::new(),
             steps: Vec::new(),
+            clock: Vec::new(),
             waiting: Vec::new(),
+        }
+    }
+
+    /// Notes the time of the clock at the last step.
+    pub(super) fn note_clock(&mut self, now: Duration) {
+        let before = self.clock.last().map_or(Duration::ZERO, |(_, time)| *time);
+        if now != before {
+            self.clock.push((self.steps.len() as u32 - 1, now));
         }
     }
 
@@ -216,6 +228,9 @@ impl Schedule {
         for waiting in &self.waiting {
             let (what, at) = (one_word(&waiting.what), place(waiting.at.as_ref()));
             let _ = writeln!(text, "waits {what} {at} {}", one_line(&waiting.who));
+        }
+        for (step, time) in &self.clock {
+            let _ = writeln!(text, "clock {step} {}", time.as_nanos());
         }
         let _ = writeln!(text, "steps {}", self.steps.len());
         self.steps.iter().for_each(|step| step.write(&mut text));
@@ -291,6 +306,11 @@ impl Schedule {
                     at: read_place(words.next()?)?,
                     who: words.next()?.into(),
                 });
+            }
+            "clock" => {
+                let (step, time) = rest.split_once(' ')?;
+                let time = Duration::from_nanos(time.parse().ok()?);
+                self.clock.push((step.parse().ok()?, time));
             }
             "channel" => {
                 let (number, name) = rest.split_once(' ')?;
@@ -444,6 +464,7 @@ mod tests {
             at: Some(("src/a.rs".to_string(), 7)),
             who: "bob 2".into(),
         }];
+        schedule.clock = vec![(2, Duration::from_millis(40))];
         schedule.steps = vec![
             step(0, "a reader", What::Poll, None),
             step(1, "admin", send, Some(("tests/my shop.rs".to_string(), 7))),
@@ -457,7 +478,7 @@ mod tests {
     #[test]
     fn a_file_has_the_whole_schedule() {
         let wanted = "yovanelum schedule 1\norder s1.1\nend hung\ntimers\nbusy\nlost 12\nrestless 0\nunnamed 0\nnothing no channel\nparted 4\n\
-            journal 00000000000000ab\nchannel 3 prices of today\nwaits Semaphore::acquire 7:src/a.rs bob 2\nsteps 4\n0 2 = poll - - a reader\n\
+            journal 00000000000000ab\nchannel 3 prices of today\nwaits Semaphore::acquire 7:src/a.rs bob 2\nclock 2 40000000\nsteps 4\n0 2 = poll - - a reader\n\
             1 2 ! send 3.0 7:tests/my%20shop.rs admin\n0 2 = time a%20reader - (time)\n\
             0 2 = poll Mutex::lock 9:src/a.rs ann\n";
         assert_eq!(schedule().text(), wanted);
@@ -495,7 +516,7 @@ mod tests {
         );
         assert_eq!(
             fault(&text.replace("1 2 ! send", "1 2 send")),
-            "line 16: `1 2 send 3.0 7:tests/my%20shop.rs admin`"
+            "line 17: `1 2 send 3.0 7:tests/my%20shop.rs admin`"
         );
         let (cut, _) = text.rsplit_once("0 2 =").unwrap();
         assert_eq!(fault(cut), "it ends too early");

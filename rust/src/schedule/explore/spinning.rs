@@ -4,11 +4,11 @@
 use super::stand::ArrivingPoint;
 use crate::channels::channel::CallSite;
 use crate::channels::turns::ArrivingCall;
-use crate::run::by_text::TextMap;
-use crate::run::numbered::NumberMap;
-use crate::run::operation::{CallSet, Operation};
 use std::ptr;
 use std::sync::Arc;
+use yovanelum_record::by_text::TextMap;
+use yovanelum_record::numbered::NumberMap;
+use yovanelum_record::operation::{CallSet, Operation};
 
 /// How often a caller makes the same look before it is set aside.
 const SAME_LOOKS: u32 = 2;

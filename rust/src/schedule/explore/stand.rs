@@ -1,6 +1,7 @@
 //! Those who stand before the gate, and what they come with.
 
 use super::chooser::Candidate;
+use super::fairness::PassedOver;
 use super::schedule::What;
 use super::spinning::{CallInSource, LookedBy};
 use super::threads::ThreadId;
@@ -53,6 +54,9 @@ pub(super) struct Stand {
     /// How often it has come round since something else happened on its thread.
     pub(super) rounds: usize,
     pub(super) spins: bool,
+    pub(super) passed_over: PassedOver,
+    /// Whether it is polled by what its thread blocks on, as a task of a `LocalSet`.
+    pub(super) is_within: bool,
 }
 
 impl Stand {
@@ -106,6 +110,7 @@ impl Stand {
             who: self.who.clone(),
             what,
             number: self.number,
+            passed_over: self.passed_over,
         }
     }
 }

@@ -5,21 +5,23 @@ mod time;
 use super::chooser::{Candidate, Chooser};
 use super::clock::TestClock;
 use super::explorer::Offered;
+use super::fairness::{Fairness, PassedOver};
 use super::order::Order;
 use super::run::pause;
 use super::schedule::{Schedule, Step, Turn, What};
 use super::spinning::SpinDetector;
 use super::stand::{Arrival, Stand};
 use super::threads::{Asked, Sleeper, ThreadId, Threads, this_thread};
+use crate::channels::actors::is_in_blocked_poll;
 use crate::channels::whereabouts::PlaceNumber;
-use crate::run::by_text::TextMap;
-use crate::run::listed::{IntoList, Keep, PushAll};
-use crate::run::numbered::NumberMap;
-use crate::run::sorting::sort_by;
 use std::sync::Arc;
 use std::task::Waker;
 use std::thread;
 use std::time::{Duration, Instant};
+use yovanelum_record::by_text::TextMap;
+use yovanelum_record::listed::{IntoList, Keep, PushAll};
+use yovanelum_record::numbered::{NumberMap, NumberSet};
+use yovanelum_record::sorting::sort_by;
 
 /// How many are let go in a run before all go on in any order.
 const MOST_STEPS: usize = 50_000;
@@ -64,6 +66,9 @@ pub(super) struct ExplorerState {
     next_number: u64,
     /// How many have each name.
     names: TextMap<u32>,
+    /// The threads that block on futures with names of their own.
+    named_within: Vec<ThreadId>,
+    pub(super) fairness: Fairness,
     pub(super) wait_places: WaitPlaces,
 }
 
@@ -105,6 +110,8 @@ impl ExplorerState {
             pause: pause(),
             next_number: 0,
             names: TextMap::new(),
+            named_within: Vec::new(),
+            fairness: Fairness::of_run(),
             wait_places: WaitPlaces::default(),
         }
     }
@@ -142,6 +149,8 @@ impl ExplorerState {
             waker: None,
             rounds: 0,
             spins,
+            passed_over: PassedOver::default(),
+            is_within: is_in_blocked_poll(),
         });
         let last = self.stands.len() - 1;
         &mut self.stands[last]
@@ -166,6 +175,21 @@ impl ExplorerState {
         stands.position(|stand| stand.is_poll() && stand.who == *who)
     }
 
+    /// Notes that what this thread blocks on polls a future with a name, which stands by itself.
+    pub(super) fn note_named(&mut self, thread: ThreadId) {
+        if !self.named_within.contains(&thread) {
+            self.named_within.push(thread);
+        }
+    }
+
+    /// Whether what this thread blocks on goes without a choice: it has a future with a name, or
+    /// one was let go that it polls.
+    pub(super) fn is_free(&self, thread: ThreadId) -> bool {
+        let mut stands = self.stands.iter();
+        self.named_within.contains(&thread)
+            || stands.any(|it| it.is_poll() && it.is_within && it.is_chosen && it.thread == thread)
+    }
+
     /// Takes the stand of a poll out, since it goes on. Returns its waker.
     pub(super) fn take_poll(&mut self, index: usize) -> Option<Waker> {
         let stand = self.stands.swap_remove(index);
@@ -178,9 +202,12 @@ impl ExplorerState {
         stands.any(|stand| stand.is_blocking() && stand.thread == thread)
     }
 
-    /// Whether a thread polls nothing but what is held back, again and again.
+    /// Whether a thread polls nothing but what is held back, again and again. Where what it blocks
+    /// on is held back, nobody polls the tasks of its own.
     pub(super) fn only_holds(&self, thread: ThreadId) -> bool {
         let here = || self.stands.iter().filter(|stand| stand.thread == thread);
+        let is_any_around = here().any(|stand| !stand.is_within);
+        let here = || here().filter(|stand| !(stand.is_within && is_any_around));
         let is_held = |stand: &Stand| stand.spins && !stand.is_chosen && stand.rounds >= 2;
         let rounds: usize = here().map(|stand| stand.rounds).sum();
         rounds >= ROUNDS && here().all(|stand| stand.is_poll() && is_held(stand))
@@ -276,17 +303,20 @@ impl ExplorerState {
 
     /// Lets one go of those who stand, while the other threads sleep at these places.
     pub(super) fn choose(&mut self, rest: &[Sleeper]) {
-        let candidates = self.candidates(rest);
-        if candidates.is_empty() {
+        let mut candidates = self.candidates(rest);
+        if candidates.is_empty() || self.follows_clock(&candidates) {
             return;
         }
+        self.fairness.keep_fair(&mut candidates);
         if !self.pause.is_zero() {
             thread::sleep(self.pause);
         }
         let chosen = self.chooser.choose(&candidates);
         let last = self.last.as_ref();
         let could_go_on = candidates.iter().any(|other| Some(&other.who) == last);
-        let Candidate { who, what, number } = &candidates[chosen];
+        let Candidate {
+            who, what, number, ..
+        } = &candidates[chosen];
         self.schedule.steps.push(Step {
             chosen: chosen as u32,
             count: candidates.len() as u32,
@@ -310,6 +340,11 @@ impl ExplorerState {
             let point = *point;
             self.looks.passes(who, point);
         }
+        self.schedule.note_clock(self.clock.now());
+        let is_time = matches!(what, What::Time { .. });
+        let is_poll = *what == What::Poll;
+        self.fairness.chose(who, is_poll, candidates.len() > 1);
+        self.note_passed_over(*number, is_time, is_poll, &candidates);
         let step = self.schedule.steps.len() - 1;
         let of_steps = &mut self.wait_places.of_steps;
         of_steps.push_all(place.map(|place| (step, place)));
@@ -323,6 +358,24 @@ impl ExplorerState {
         self.went_at.insert(&who, self.schedule.steps.len());
         self.last = Some(who);
         self.let_go(number);
+    }
+
+    /// Counts for those who could have gone that others did, or time.
+    fn note_passed_over(
+        &mut self,
+        chosen: u64,
+        is_time: bool,
+        is_poll: bool,
+        candidates: &[Candidate],
+    ) {
+        let others = candidates.iter().map(|one| one.number);
+        let others: NumberSet<u64> = others.filter(|number| *number != chosen).collect();
+        for stand in &mut self.stands {
+            if others.contains(&stand.number) {
+                stand.passed_over.by_time += u32::from(is_time);
+                stand.passed_over.by_polls += u32::from(is_poll);
+            }
+        }
     }
 
     fn standing(&self, number: u64) -> Option<&Stand> {
@@ -364,7 +417,8 @@ impl ExplorerState {
         }
         let mut all: Vec<Candidate> = standing.iter().map(|stand| stand.candidate()).listed();
         sort_by(&mut all, |a, b| (&a.who, a.number).cmp(&(&b.who, b.number)));
-        let is_time_near = self.is_time_near(rest);
+        let is_passed = standing.iter().any(|it| self.fairness.forbids_time(it));
+        let is_time_near = !is_passed && self.is_time_near(rest);
         let first = if is_any_busy {
             all.iter()
                 .position(|one| Some(&one.who) == self.last.as_ref())
@@ -380,7 +434,8 @@ impl ExplorerState {
             let time = Candidate {
                 who: TIME.into(),
                 what: What::Time { ready: ready(&all) },
-                number: u64::MAX,
+                number: Candidate::TIME,
+                passed_over: PassedOver::default(),
             };
             // Where all look at what doesn't change, time may change it.
             all.insert(if is_any_busy { all.len() } else { 0 }, time);

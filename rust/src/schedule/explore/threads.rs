@@ -3,12 +3,12 @@
 
 use super::random::hashed;
 use super::system_call::{self, Doing, Timer};
-use crate::run::listed::{Keep, PushAll};
 use std::cell::OnceCell;
 use std::fs::{self, File};
 use std::path::{Path, PathBuf};
 use std::process;
 use std::time::Duration;
+use yovanelum_record::listed::{Keep, PushAll};
 
 /// How long nothing has moved where all are taken to sleep by a clock.
 const STILL: Duration = Duration::from_millis(1);

@@ -6,9 +6,9 @@ use super::plan::Plan;
 use super::state::GateState;
 use crate::channels::backend::Actor;
 use crate::channels::channel::CallSite;
-use crate::run::operation::CallSet;
 use std::fmt::{self, Write as _};
 use std::time::Duration;
+use yovanelum_record::operation::CallSet;
 
 /// What has come in place of the call that was expected.
 #[derive(Clone, Copy)]

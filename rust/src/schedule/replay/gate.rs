@@ -12,14 +12,14 @@ use super::{ArrivingCall, Identity, stop};
 use crate::channels::backend::Actor;
 use crate::channels::reentrant::thread_number;
 use crate::channels::standard_error::say;
-use crate::run::listed::IntoList;
-use crate::run::sidecar::Maker;
 use crate::schedule::entrance::Entrance;
 use crate::schedule::explore::this_thread;
 use std::path::{Path, PathBuf};
 use std::sync::{Condvar, MutexGuard, PoisonError};
 use std::thread;
 use std::time::Duration;
+use yovanelum_record::listed::IntoList;
+use yovanelum_record::sidecar::Maker;
 
 /// How long a wait goes on without progress where it may be for what the wait itself keeps away.
 pub(super) const SHORT: Duration = Duration::from_millis(250);

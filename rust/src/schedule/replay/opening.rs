@@ -8,14 +8,14 @@ use crate::channels::actors;
 use crate::channels::lock::lock;
 use crate::channels::recorder::Recorder;
 use crate::channels::turns::{self, Polls, explored};
-use crate::run::journal::{self, Run};
-use crate::run::listed::Keep;
-use crate::run::sidecar::Sidecar;
 use std::path::Path;
 use std::sync::{Arc, Mutex, Weak};
 use std::task::Context;
 use std::time::Duration;
 use std::{env, fs, io};
+use yovanelum_record::journal::{self, Run};
+use yovanelum_record::listed::Keep;
+use yovanelum_record::sidecar::Sidecar;
 
 /// The variable that says how many milliseconds a thread waits without progress.
 const PATIENCE: &str = "YOVANELUM_REPLAY_TIMEOUT_MS";
@@ -87,8 +87,8 @@ impl Polls for OpenGates {
         context: &Context<'_>,
     ) -> bool {
         match explored() {
-            Some(run) => run.tasks.hold(task, name, context),
-            None => is_held_by_gate(name, recorder, context),
+            Some(run) => run.tasks.hold_named(task, name, context),
+            None => is_held_by_gate(name, recorder, context, true),
         }
     }
 
@@ -99,20 +99,35 @@ impl Polls for OpenGates {
         context: &Context<'_>,
     ) -> bool {
         let name = name.filter(|_| explored().is_none());
-        name.is_some_and(|name| is_held_by_gate(name, recorder, context))
+        name.is_some_and(|name| is_held_by_gate(name, recorder, context, true))
     }
 
     fn hold_thread(&self, context: &Context<'_>) -> bool {
-        let name = actors::name_of_thread_alone().filter(|_| explored().is_none());
-        name.is_some_and(|name| is_held_by_gate(&name, None, context))
+        match explored() {
+            Some(run) => run.tasks.hold_thread(context),
+            None => actors::name_of_thread_alone()
+                .is_some_and(|name| is_held_by_gate(&name, None, context, false)),
+        }
     }
 }
 
-fn is_held_by_gate(name: &str, recorder: Option<u64>, context: &Context<'_>) -> bool {
+/// Whether the open gate holds a poll back. `is_task` says whether it is one of a task or a future
+/// with a name, and not of what a thread blocks on, without which nobody else goes on.
+fn is_held_by_gate(
+    name: &str,
+    recorder: Option<u64>,
+    context: &Context<'_>,
+    is_task: bool,
+) -> bool {
     let recorder = recorder.or_else(|| Recorder::current().map(|current| current.0.id));
     let within = actors::name_of_future();
     let gate = gate_of(recorder);
-    gate.is_some_and(|gate| gate.holds(name, within.as_deref(), context))
+    gate.is_some_and(|gate| {
+        // One without a recorder may be of another test.
+        let is_alone = is_task && within.is_none() && recorder.is_some();
+        gate.holds(name, within.as_deref(), context)
+            || is_alone && gate.holds_unknown(name, context)
+    })
 }
 
 /// Returns the open gate of this recorder. If there is no recorder, that is the gate of a process

@@ -7,10 +7,10 @@ use super::state::GateState;
 use crate::channels::backend::Actor;
 use crate::channels::recorder::NotedPanic;
 use crate::channels::turns::TestEnd;
-use crate::run::account::UnnamedChannel;
-use crate::run::listed::IntoList;
-use crate::run::sidecar::{Panic, Sidecar, SourceLocation};
 use std::fmt::{self, Write as _};
+use yovanelum_record::listed::IntoList;
+use yovanelum_record::sidecar::{Panic, Sidecar, SourceLocation};
+use yovanelum_record::unnamed::UnnamedChannel;
 
 /// How a replay has gone so far, returned by [`Recorder::replayed`](crate::Recorder::replayed).
 ///

@@ -9,12 +9,12 @@
 use super::ArrivingCall;
 use crate::channels::actors::{MOST_TASKS, SPAWNED_TASK, UNNAMED_TASK, UNNAMED_THREAD};
 use crate::channels::backend::Actor;
-use crate::run::by_text::TextMap;
-use crate::run::journal::{Run, RunEntry};
-use crate::run::numbered::{NumberMap, NumberSet};
-use crate::run::operation::Operation;
-use crate::run::sidecar::{Maker, Sidecar};
 use std::collections::HashMap;
+use yovanelum_record::by_text::TextMap;
+use yovanelum_record::journal::{Run, RunEntry};
+use yovanelum_record::numbered::{NumberMap, NumberSet};
+use yovanelum_record::operation::Operation;
+use yovanelum_record::sidecar::{Maker, Sidecar};
 
 /// No step.
 pub(super) const NONE: u32 = u32::MAX;

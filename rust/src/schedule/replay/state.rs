@@ -9,13 +9,16 @@ use super::{ArrivingCall, Identity};
 use crate::channels::backend::Actor;
 use crate::channels::channel::CallSite;
 use crate::channels::turns::Ticket;
-use crate::run::by_text::TextMap;
-use crate::run::listed::{IntoList, Keep, PushAll};
+use yovanelum_record::by_text::{TextMap, TextSet};
+use yovanelum_record::listed::{IntoList, Keep, PushAll};
 
-use crate::run::operation::Operation;
 use crate::schedule::explore::ThreadId;
-use std::iter;
 use std::task::Waker;
+use std::{iter, mem};
+use yovanelum_record::operation::Operation;
+
+/// How many tasks without a call in the journal are held back at most.
+const UNKNOWN_HELD: usize = 16;
 
 /// How many tasks are known apart that poll the calls of a lane.
 const MOST_TASKS: usize = 8;
@@ -92,6 +95,16 @@ pub(super) struct OfActor {
     pub(super) called_at: CallSite,
 }
 
+/// Tasks that make no call in the journal. Each is held back once, until nobody else goes on: what
+/// the others wait for may be what it does, or it may make a call that comes behind the journal's,
+/// and block their thread.
+#[derive(Default)]
+struct UnknownTasks {
+    held: Vec<(String, HeldPoll)>,
+    /// Those that were let go.
+    free: TextSet,
+}
+
 pub(super) struct GateState {
     /// How many calls were made. So it is the index of the step whose turn it is.
     pub(super) position: usize,
@@ -103,6 +116,8 @@ pub(super) struct GateState {
     next_ticket: u64,
     /// How many polls are held back.
     held_count: usize,
+    /// Those of tasks that make no call in the journal.
+    unknown: UnknownTasks,
     /// The threads that are blocked.
     pub(super) blocked: Vec<ThreadId>,
     /// Whether the helper sleeps until it is notified.
@@ -169,6 +184,7 @@ impl GateState {
             waiters: Waiters::default(),
             next_ticket: 0,
             held_count: 0,
+            unknown: UnknownTasks::default(),
             blocked: Vec::new(),
             is_helper_idle: false,
             woken: Vec::new(),
@@ -390,6 +406,41 @@ impl GateState {
         None
     }
 
+    /// Whether the poll of a task with this name is held back, which makes no call in the journal.
+    /// Where many were let go, so are all: they aren't what keeps others away.
+    pub(super) fn holds_unknown(&mut self, name: &str, waker: Waker) -> bool {
+        let of = &mut self.unknown;
+        if of.free.contains(name) || of.free.len() >= UNKNOWN_HELD {
+            return false;
+        }
+        let since = self.clock.now();
+        let held = HeldPoll { waker, since };
+        match of.held.iter_mut().find(|(other, _)| *other == name) {
+            Some((_, before)) => before.waker = held.waker,
+            None => {
+                of.held.push((name.to_string(), held));
+                self.held_count += 1;
+            }
+        }
+        true
+    }
+
+    /// Hands the first task to the helper that makes no call in the journal, if it has waited for
+    /// as long as this function says. The others wait on: perhaps it is the one that is needed.
+    pub(super) fn release_unknown(&mut self, is_long: impl Fn(&HeldPoll) -> bool) {
+        if self
+            .unknown
+            .held
+            .first()
+            .is_some_and(|(_, held)| is_long(held))
+        {
+            let (name, held) = self.unknown.held.remove(0);
+            self.held_count -= 1;
+            self.unknown.free.insert(&name);
+            self.woken.push(held.waker);
+        }
+    }
+
     /// Whether a poll is held back.
     pub(super) fn is_any_held(&self) -> bool {
         self.held_count > 0
@@ -420,6 +471,10 @@ impl GateState {
 
     /// Hands all futures to the helper.
     pub(super) fn release_all(&mut self) {
+        let unknown = mem::take(&mut self.unknown.held);
+        self.held_count -= unknown.len();
+        self.woken
+            .push_all(unknown.into_iter().map(|(_, held)| held.waker));
         for actor in 0..self.actors.len() {
             self.release(actor as u32);
         }

@@ -17,15 +17,15 @@ use super::{ArrivingCall, helper};
 use crate::channels::backend::Actor;
 use crate::channels::lock::lock;
 use crate::channels::turns::{OrderedChannel, Permit, TestEnd, Ticket, Turns};
-use crate::run::journal::Run;
-use crate::run::operation::Operation;
-use crate::run::sidecar::{Maker, Sidecar};
 use std::path::Path;
 use std::sync::atomic::{AtomicUsize, Ordering};
 use std::sync::{Arc, Barrier, Mutex, mpsc};
 use std::task::{Context, Poll, Wake, Waker};
 use std::thread;
 use std::time::Duration;
+use yovanelum_record::journal::Run;
+use yovanelum_record::operation::Operation;
+use yovanelum_record::sidecar::{Maker, Sidecar};
 
 /// Longer than any test lasts.
 const PATIENT: Duration = Duration::from_secs(600);

@@ -2,8 +2,8 @@
 
 use super::state::Waiter;
 use crate::channels::turns::Ticket;
-use crate::run::listed::PushAll;
-use crate::run::numbered::NumberMap;
+use yovanelum_record::listed::PushAll;
+use yovanelum_record::numbered::NumberMap;
 
 /// The waiters of a replay. A lane is here while it has some.
 #[derive(Default)]

@@ -8,6 +8,7 @@ mod yielding;
 mod budget;
 mod event_bus;
 mod given;
+mod misuses;
 mod names;
 mod own_channels;
 mod storm;

@@ -3,19 +3,13 @@
 //! In a clause `R.remaining` is what a reader has left, and `W.contents` what was given to a
 //! writer.
 
-use super::alloc::{AllocError, Global};
+use super::alloc::Global;
 use super::rt::Print;
 use super::vec::Vec;
 pub use std::io::{Error, ErrorKind, Read, Result, Write};
 
 /// How many bytes `BufReader::new` has room for, in Rattle as in Rust.
 const CAPACITY: usize = 8192;
-
-impl From<AllocError> for Error {
-    fn from(_: AllocError) -> Error {
-        ErrorKind::OutOfMemory.into()
-    }
-}
 
 /// Returns standard output as a writer. Rattle's has no clause.
 pub fn writer<R: Print>(rt: &R) -> R::Writer {

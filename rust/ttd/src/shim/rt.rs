@@ -89,7 +89,7 @@ impl Read for StandardInput {
     fn read(&mut self, bytes: &mut [u8]) -> io::Result<usize> {
         standard_streams::check_input()?;
         if bytes.is_empty() {
-            return standard_streams::check_is_no_folder().map(|()| 0);
+            return without_refusals(standard_streams::check_is_no_folder).map(|()| 0);
         }
         without_refusals(|| io::stdin().lock().read(bytes))
     }

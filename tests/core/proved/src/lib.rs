@@ -1,4 +1,4 @@
-//! The Rust source of the proved crates, with all that is public in it: `rust/src/core/source`, over the shim of the library and of the program.
+//! The Rust source of the proved crates, with all that is public in it: `rust/core/src/source`, over the shim of the library and of the program.
 //!
 //! Rattle's functions ask for an allocator and a runtime. Both have no bytes: tests give [`Global`] and [`RT`].
 #![allow(
@@ -10,7 +10,7 @@
     clippy::all
 )]
 
-#[path = "../../../../rust/src/core/large_pages.rs"]
+#[path = "../../../../rust/core/src/large_pages.rs"]
 mod large_pages;
 #[path = "../../../../rust/ttd/src/refused.rs"]
 mod refused;

@@ -12,27 +12,27 @@ pub mod indexmap;
 #[path = "../../../../page/engine/src/shim/serde_json.rs"]
 pub mod serde_json;
 
-#[path = "../../../../rust/src/core/shim/alloc.rs"]
+#[path = "../../../../rust/core/src/shim/alloc.rs"]
 pub mod alloc;
-#[path = "../../../../rust/src/core/shim/boxed.rs"]
+#[path = "../../../../rust/core/src/shim/boxed.rs"]
 mod boxed;
-#[path = "../../../../rust/src/core/shim/casts.rs"]
+#[path = "../../../../rust/core/src/shim/casts.rs"]
 mod casts;
-#[path = "../../../../rust/src/core/shim/fallible.rs"]
+#[path = "../../../../rust/core/src/shim/fallible.rs"]
 pub mod fallible;
-#[path = "../../../../rust/src/core/shim/itoa.rs"]
+#[path = "../../../../rust/core/src/shim/itoa.rs"]
 pub mod itoa;
-#[path = "../../../../rust/src/core/shim/collections.rs"]
+#[path = "../../../../rust/core/src/shim/collections.rs"]
 mod maps;
-#[path = "../../../../rust/src/core/shim/memchr.rs"]
+#[path = "../../../../rust/core/src/shim/memchr.rs"]
 pub mod memchr;
-#[path = "../../../../rust/src/core/shim/slices.rs"]
+#[path = "../../../../rust/core/src/shim/slices.rs"]
 mod slices;
-#[path = "../../../../rust/src/core/shim/snapshot.rs"]
+#[path = "../../../../rust/core/src/shim/snapshot.rs"]
 pub mod snapshot;
-#[path = "../../../../rust/src/core/shim/string.rs"]
+#[path = "../../../../rust/core/src/shim/string.rs"]
 mod string;
-#[path = "../../../../rust/src/core/shim/vec.rs"]
+#[path = "../../../../rust/core/src/shim/vec.rs"]
 mod vec;
 
 #[path = "../../../../rust/ttd/src/shim/env.rs"]

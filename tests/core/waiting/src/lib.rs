@@ -7,7 +7,7 @@
 //! All steps have one order here. That stands on `SeqCst`, and on the kit's tables.
 
 #[allow(dead_code)]
-#[path = "../../../../rust/src/core/large_pages.rs"]
+#[path = "../../../../rust/core/src/large_pages.rs"]
 mod large_pages;
 
 #[allow(dead_code)]

@@ -1,22 +1,22 @@
 //! The shim of the proved crates, where words, locks and parked threads take turns.
 
-#[path = "../../../../rust/src/core/shim/alloc.rs"]
+#[path = "../../../../rust/core/src/shim/alloc.rs"]
 pub mod alloc;
 pub mod atomic_table;
-#[path = "../../../../rust/src/core/shim/boxed.rs"]
+#[path = "../../../../rust/core/src/shim/boxed.rs"]
 mod boxed;
-#[path = "../../../../rust/src/core/shim/casts.rs"]
+#[path = "../../../../rust/core/src/shim/casts.rs"]
 mod casts;
-#[path = "../../../../rust/src/core/shim/fallible.rs"]
+#[path = "../../../../rust/core/src/shim/fallible.rs"]
 pub mod fallible;
 #[path = "../../proved/src/shim/for_tests.rs"]
 mod for_tests;
-#[path = "../../../../rust/src/core/shim/slices.rs"]
+#[path = "../../../../rust/core/src/shim/slices.rs"]
 mod slices;
-#[path = "../../../../rust/src/core/shim/snapshot.rs"]
+#[path = "../../../../rust/core/src/shim/snapshot.rs"]
 pub mod snapshot;
 pub mod sync;
-#[path = "../../../../rust/src/core/shim/vec.rs"]
+#[path = "../../../../rust/core/src/shim/vec.rs"]
 mod vec;
 
 use crate::large_pages;

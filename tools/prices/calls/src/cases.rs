@@ -150,6 +150,38 @@ macro_rules! cases_of {
                 }
             }
 
+            /// Whether there is a value that is unseen.
+            pub fn has_changed(count: u64) {
+                let (_tx, rx) = watch::channel(7);
+                for _ in 0..count {
+                    assert!(!black_box(black_box(&rx).has_changed()).unwrap());
+                }
+            }
+
+            /// Whether there is a receiver.
+            pub fn is_closed(count: u64) {
+                let (tx, _rx) = watch::channel(7);
+                for _ in 0..count {
+                    assert!(!black_box(black_box(&tx).is_closed()));
+                }
+            }
+
+            /// How many receivers there are.
+            pub fn counted(count: u64) {
+                let (tx, _rx) = watch::channel(7);
+                for _ in 0..count {
+                    black_box(black_box(&tx).receiver_count());
+                }
+            }
+
+            /// How many values are to be received.
+            pub fn len(count: u64) {
+                let (_tx, rx) = broadcast::channel::<u64>(16);
+                for _ in 0..count {
+                    black_box(black_box(&rx).len());
+                }
+            }
+
             /// A change in place, and a look that marks the value as seen.
             pub fn modified(count: u64) {
                 let (tx, mut rx) = watch::channel(0);
@@ -232,4 +264,4 @@ macro_rules! table {
     };
 }
 
-table! { pairs received fanned lagging unheard cloned asked watched modified looks woken changed cancelled subscribed broadcasts watches }
+table! { pairs received fanned lagging unheard cloned asked len watched modified looks has_changed is_closed counted woken changed cancelled subscribed broadcasts watches }

@@ -5,10 +5,10 @@ use super::{CoreChannel, machine};
 use crate::channels::backend::Recording;
 use crate::channels::channel::machine::Machine;
 use crate::channels::channel::numbers::Place;
-use crate::core::shim::Vec as CoreVec;
-use crate::run::listed::IntoList;
-use crate::run::reply::Reply;
 use std::{iter, mem};
+use yovanelum_core::shim::Vec as CoreVec;
+use yovanelum_record::listed::IntoList;
+use yovanelum_record::reply::Reply;
 
 impl CoreChannel {
     /// Whether a quarter of the handles that a journal names aren't alive, and no others are.

@@ -4,7 +4,8 @@
 use super::{CoreChannel, MOST_HANDLES};
 use crate::channels::backend::{Actor, Caller, Recording, Spec};
 use crate::channels::handle::Kind;
-use crate::run::reply::Reply;
+use crate::channels::results::ReplyResult;
+use yovanelum_record::reply::Reply;
 
 const CALLER: Caller = Caller {
     actor: Actor::FIRST,

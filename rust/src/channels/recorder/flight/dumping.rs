@@ -8,10 +8,14 @@ use std::path::{Path, PathBuf};
 use std::sync::Mutex;
 use std::sync::atomic::Ordering;
 use std::time::{Duration, Instant};
+use yovanelum_record::listed::Keep;
 
 /// How many dumps that panics and callers have called for are begun at once. Each has a copy of the
 /// channels' last calls until it is its turn.
 const MOST_AT_ONCE: usize = 8;
+
+/// How many places of panics are known apart.
+const PLACES_KEPT: usize = 64;
 
 /// What calls for a dump.
 #[derive(Clone, Copy, PartialEq, Eq)]
@@ -46,6 +50,8 @@ pub(crate) struct DumpSettings {
     pub(crate) at_most_every: Duration,
     pub(crate) keep: usize,
     begun: [BegunDumps; 4],
+    /// Where panics were that have called for dumps, and when they did last.
+    places: Vec<((String, u32), Instant)>,
 }
 
 /// The dumps that one trigger has called for.
@@ -60,6 +66,21 @@ struct BegunDumps {
 impl DumpSettings {
     fn begun(&mut self, trigger: Trigger) -> &mut BegunDumps {
         &mut self.begun[trigger as usize]
+    }
+
+    /// Whether a dump was begun a short time ago for this place. Else it is noted for it.
+    fn is_again(&mut self, place: (String, u32), now: Instant) -> bool {
+        let at_most_every = self.at_most_every;
+        let is_near = |since: &Instant| now.saturating_duration_since(*since) < at_most_every;
+        self.places.keep(|(_, since)| is_near(since));
+        if self.places.iter().any(|(other, _)| *other == place) {
+            return true;
+        }
+        if self.places.len() == PLACES_KEPT {
+            self.places.remove(0);
+        }
+        self.places.push((place, now));
+        false
     }
 
     /// Returns why a dump isn't begun at this time, if it isn't.
@@ -99,6 +120,7 @@ impl Default for Dumping {
                 at_most_every: Duration::from_secs(60),
                 keep: 16,
                 begun: Default::default(),
+                places: Vec::new(),
             }),
             least_lost: AtomicU64::new(u64::MAX),
             written: AtomicU64::new(0),
@@ -132,8 +154,8 @@ impl Dumping {
         wanted(&lock(&self.settings))
     }
 
-    /// Begins a dump at this time, which `end` is to be told of. Returns its folder and how many
-    /// are kept there.
+    /// Begins a dump at this time, perhaps for a panic at a place, which `end` is to be told of.
+    /// Returns its folder and how many are kept there.
     ///
     /// # Errors
     ///
@@ -142,6 +164,7 @@ impl Dumping {
     pub(super) fn begin(
         &self,
         trigger: Trigger,
+        place: Option<(String, u32)>,
         now: Option<Instant>,
     ) -> io::Result<(PathBuf, usize)> {
         let mut settings = lock(&self.settings);
@@ -149,7 +172,13 @@ impl Dumping {
             drop(settings);
             return self.fail(io::Error::other("it has no folder: `dump_to` sets one"));
         };
-        if let Some(why) = settings.refuses(trigger, now) {
+        let again = place.zip(now);
+        let refused = settings.refuses(trigger, now).or_else(|| {
+            again
+                .is_some_and(|(place, now)| settings.is_again(place, now))
+                .then_some("the last one for a panic there was begun too short a time ago")
+        });
+        if let Some(why) = refused {
             self.left_out.fetch_add(1, Ordering::Relaxed);
             return Err(io::Error::new(io::ErrorKind::WouldBlock, why));
         }
@@ -203,7 +232,7 @@ mod tests {
         // Each dump that is begun ends at once.
         let begins = |seconds, trigger| {
             let at = begun + Duration::from_secs(seconds);
-            let begins = dumping.begin(trigger, Some(at)).is_ok();
+            let begins = dumping.begin(trigger, None, Some(at)).is_ok();
             if begins {
                 dumping.end(trigger);
             }
@@ -226,10 +255,33 @@ mod tests {
     }
 
     #[test]
+    fn a_storm_of_panics_has_one_dump_for_each_place() {
+        let (dumping, begun) = (dumping(), Instant::now());
+        let begins = |seconds, line| {
+            let place = Some(("src/a.rs".to_string(), line));
+            let at = begun + Duration::from_secs(seconds);
+            let begins = dumping.begin(Trigger::Panic, place, Some(at)).is_ok();
+            if begins {
+                dumping.end(Trigger::Panic);
+            }
+            begins
+        };
+        assert_eq!(
+            [7, 7, 8, 7].map(|line| begins(0, line)),
+            [true, false, true, false]
+        );
+        assert_eq!([59, 60, 61].map(|at| begins(at, 7)), [false, true, false]);
+        // The least recent place is forgotten where there are too many.
+        assert!((100..200).all(|line| begins(61, line)));
+        assert!(begins(61, 7) && !begins(61, 199));
+        assert_eq!(dumping.counts().left_out(), 5);
+    }
+
+    #[test]
     fn panics_and_callers_are_not_kept_from_a_dump_by_one_that_is_written() {
         let dumping = dumping();
         dumping.set(|settings| settings.at_most_every = Duration::ZERO);
-        let begins = |trigger| dumping.begin(trigger, Some(Instant::now())).is_ok();
+        let begins = |trigger| dumping.begin(trigger, None, Some(Instant::now())).is_ok();
         assert_eq!([0; 2].map(|_| begins(Trigger::Lag)), [true, false]);
         for trigger in [Trigger::Panic, Trigger::Call] {
             assert!((0..MOST_AT_ONCE).all(|_| begins(trigger)));

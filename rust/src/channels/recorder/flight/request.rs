@@ -10,15 +10,15 @@ use crate::channels::channel_lock::ChannelLock;
 use crate::channels::events::values;
 use crate::channels::handle::Kind;
 use crate::channels::oneshot::{Sender, channel};
-use crate::core::large_pages::without_giving_back;
-use crate::core::source::rw_law::NoMemory;
-use crate::run::clock::{Moment, now, wall};
 use std::io;
 use std::panic::{self, AssertUnwindSafe};
 use std::path::PathBuf;
 use std::sync::Arc;
 use std::sync::atomic::Ordering;
 use std::thread;
+use yovanelum_core::large_pages::without_giving_back;
+use yovanelum_core::source::rw_law::NoMemory;
+use yovanelum_record::clock::{Moment, now, wall};
 
 /// What called for a journal of the last calls.
 #[derive(Clone, Debug)]
@@ -102,16 +102,17 @@ impl Shared {
 }
 
 impl DumpRequest {
-    /// Begins a dump, unless it is too soon.
+    /// Begins a dump, unless it is too soon, perhaps for the same place.
     fn new(
         recorder: &Arc<Shared>,
         trigger: Trigger,
         reason: String,
+        place: Option<(String, u32)>,
     ) -> io::Result<(DumpRequest, Dump)> {
         let Some(flight) = &recorder.flight else {
             return Err(io::Error::other("this recorder is no flight recorder"));
         };
-        let (folder, keep) = flight.dumping.begin(trigger, now())?;
+        let (folder, keep) = flight.dumping.begin(trigger, place, now())?;
         let (told, ended) = channel();
         let last = recorder.last();
         let request = DumpRequest {
@@ -140,7 +141,7 @@ impl DumpRequest {
         recorder: &Arc<Shared>,
         (channel, state): (&Arc<ChannelLock<ChannelState>>, &mut ChannelState),
     ) -> Option<Box<DumpRequest>> {
-        let (mut request, _) = DumpRequest::new(recorder, trigger, reason).ok()?;
+        let (mut request, _) = DumpRequest::new(recorder, trigger, reason, None).ok()?;
         match state.kept(recorder.times) {
             Ok(kept) => request.own = kept.map(|kept| (channel.clone(), kept)),
             Err(NoMemory) => {
@@ -153,7 +154,7 @@ impl DumpRequest {
 
     /// Begins a dump that somebody asks for.
     pub(crate) fn asked(recorder: &Arc<Shared>, reason: &str) -> Dump {
-        match DumpRequest::new(recorder, Trigger::Call, reason.to_string()) {
+        match DumpRequest::new(recorder, Trigger::Call, reason.to_string(), None) {
             Ok((request, dump)) => {
                 request.begin();
                 dump
@@ -166,10 +167,17 @@ impl DumpRequest {
         }
     }
 
-    /// Begins a dump that a panic calls for, unless too many are being written.
-    pub(crate) fn on_panic(recorder: &Arc<Shared>, panic: NotedPanic) -> Option<Dump> {
-        let (mut request, dump) =
-            DumpRequest::new(recorder, Trigger::Panic, panic.in_words()).ok()?;
+    /// Begins a dump that a panic calls for, unless too many are being written, or one was begun a
+    /// short time ago for a panic at the same place and the process doesn't end with this one.
+    pub(crate) fn on_panic(
+        recorder: &Arc<Shared>,
+        panic: NotedPanic,
+        ends_process: bool,
+    ) -> Option<Dump> {
+        let at = panic.location.as_ref().filter(|_| !ends_process);
+        let at = at.map(|at| (at.file.clone(), at.line));
+        let new = DumpRequest::new(recorder, Trigger::Panic, panic.in_words(), at);
+        let (mut request, dump) = new.ok()?;
         request.panic = Some(panic);
         request.begin();
         Some(dump)

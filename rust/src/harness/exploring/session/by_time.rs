@@ -19,8 +19,9 @@ impl Session {
         let Some(order) = lock(&self.search).order_to_see_timers() else {
             return;
         };
-        let (ran, _) = self.run_by(&By::Order(&order), job);
-        if ran.schedule.is_some_and(|schedule| schedule.has_timers) {
+        let ran = self.run_by(&By::Order(&order), job);
+        let schedule = ran.and_then(|(ran, _)| ran.schedule);
+        if schedule.is_some_and(|schedule| schedule.has_timers) {
             lock(&self.search).offer_time();
         }
     }
@@ -40,7 +41,7 @@ impl Session {
         let lost = Duration::from_millis(schedule.lost.into());
         let pause = lost * 2 / (schedule.steps.len() as u32).max(1);
         let fails = |by: &By<'_>| {
-            let (again, _) = self.run_by(by, job);
+            let (again, _) = self.run_by(by, job)?;
             (again.failure == ran.failure).then_some(again)
         };
         match fails(&By::Slowed(&order, pause)) {
@@ -63,7 +64,7 @@ impl Session {
             task,
             ran,
             runs,
-            took: self.began.elapsed(),
+            took: self.budget.elapsed(),
         });
         self.is_over.fetch_or(!goes_on, Ordering::Relaxed);
         goes_on

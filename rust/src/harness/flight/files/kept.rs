@@ -1,16 +1,23 @@
 //! Which dumps of a folder stay.
 
 use super::{START, time_in_digits};
-use crate::run::by_text::TextMap;
-use crate::run::listed::IntoList;
-use crate::run::sorting::sort_by;
 use std::cmp::Ordering;
 use std::path::{Path, PathBuf};
 use std::time::Duration;
 use std::{fs, io, process};
+use yovanelum_record::by_text::TextMap;
+use yovanelum_record::listed::IntoList;
+use yovanelum_record::sorting::sort_by;
 
 /// How old a part of another process is that is removed. To write a dump takes much less.
 const LONGEST: Duration = Duration::from_secs(600);
+
+/// How old it is at least where that process has ended. One that isn't seen here may run in another
+/// container.
+const PATIENCE: Duration = Duration::from_secs(2);
+
+/// What may call for a dump, as in its name.
+const TRIGGERS: [&str; 5] = ["lag", "close", "panic", "call", "limit"];
 
 /// The files of one dump.
 #[derive(Default)]
@@ -53,8 +60,9 @@ enum Age {
     JustWritten,
 }
 
-/// Removes all dumps but the last ones from the folder of this one, which was just written, and
-/// what processes that have ended have left of theirs. `now` is in milliseconds since 1970.
+/// Removes all dumps but the last ones of the same trigger from the folder of this one, which was
+/// just written, and what processes that have ended have left of theirs. So a storm of panics
+/// leaves the dumps of a lag. `now` is in milliseconds since 1970.
 pub(in crate::harness::flight) fn keep(written: &Path, keep: usize, now: Option<u64>) {
     let folder = written.parent().unwrap_or(Path::new("."));
     let dumps = match dumps_in(folder, written, now) {
@@ -65,15 +73,22 @@ pub(in crate::harness::flight) fn keep(written: &Path, keep: usize, now: Option<
             return;
         }
     };
-    let whole = dumps.iter().filter(|(_, dump)| dump.is_whole).count();
+    let own = written.file_stem().and_then(|name| name.to_str());
+    let own = own.and_then(trigger_of);
+    // One without a trigger was written by an earlier version.
+    let is_alike = |name: &str| own.is_none() || trigger_of(name).is_none_or(|it| own == Some(it));
+    let whole = dumps
+        .iter()
+        .filter(|(it, dump)| dump.is_whole && is_alike(&it.name))
+        .count();
     let mut too_many = whole.saturating_sub(keep);
     for (RemovalOrder { age, name, .. }, dump) in dumps {
         let goes = if dump.is_whole {
-            let goes = too_many > 0;
+            let goes = too_many > 0 && is_alike(&name);
             too_many -= usize::from(goes);
             goes
         } else {
-            age != Age::JustWritten && (is_own(&name) || is_left(&dump.files))
+            age != Age::JustWritten && (is_own(&name) || is_left(&name, &dump.files))
         };
         if goes {
             dump.files.iter().for_each(|file| remove(file));
@@ -130,8 +145,15 @@ fn dump_of(file: &str) -> Option<(&str, &str)> {
     let is_time = is_number(day) && is_number(rest.strip_suffix('Z')?);
     let is_part = ending.ends_with(".part");
     let is_dump = matches!(ending, "journal" | "names") || is_part;
-    let is_whole = parts.next().is_none() && is_number(process) && is_number(number);
+    let is_trigger = parts.next().is_none_or(|it| TRIGGERS.contains(&it));
+    let is_last = is_trigger && parts.next().is_none();
+    let is_whole = is_last && is_number(process) && is_number(number);
     (is_dump && is_time && is_whole).then_some((dump, ending))
+}
+
+/// Returns what has called for a dump, if its name says it.
+fn trigger_of(dump: &str) -> Option<&str> {
+    dump[START.len()..].split('-').nth(3)
 }
 
 /// Whether a dump has a later time than now.
@@ -145,17 +167,25 @@ fn is_of_the_future(dump: &str, now: Option<u64>) -> bool {
 /// Whether this process has begun a dump. It writes one at a time, so it is none that is being
 /// written.
 fn is_own(dump: &str) -> bool {
-    let process = dump[START.len()..].split('-').nth(1);
     let own = cfg!(not(target_family = "wasm")).then(process::id);
-    own.is_some_and(|own| process == Some(&own.to_string()))
+    own.is_some_and(|own| process_of(dump) == Some(&own.to_string()))
 }
 
-/// Whether nobody has written to these files for long.
-fn is_left(files: &[PathBuf]) -> bool {
+fn process_of(dump: &str) -> Option<&str> {
+    dump[START.len()..].split('-').nth(1)
+}
+
+/// Whether nobody has written to these files of a dump for long, or for a while since its process
+/// has ended. Only Linux can say so.
+fn is_left(dump: &str, files: &[PathBuf]) -> bool {
+    let has_ended = || {
+        let process = process_of(dump).map(|it| Path::new("/proc").join(it));
+        cfg!(target_os = "linux") && process.is_some_and(|process| !process.exists())
+    };
     let is_old = |path: &PathBuf| {
         let modified = fs::metadata(path).and_then(|file| file.modified());
         let age = modified.ok().and_then(|modified| modified.elapsed().ok());
-        age.is_some_and(|age| age > LONGEST)
+        age.is_some_and(|age| age > LONGEST || age > PATIENCE && has_ended())
     };
     files.iter().all(is_old)
 }
@@ -254,6 +284,46 @@ mod tests {
             keep(&paths[2], 3, None);
             assert_eq!(files_in(&folder), files_of(&DAYS, &left));
         }
+        remove_all(&folder);
+    }
+
+    #[test]
+    fn dumps_of_panics_leave_those_of_a_lag() {
+        let folder = fresh("flight-triggers");
+        let lag = format!("{}-lag", DAYS[0]);
+        write_dump(&folder, &lag);
+        let panics = [1, 2, 3].map(|number| format!("20260102T000000000Z-7-{number}-panic"));
+        for panic in &panics {
+            keep(&write_dump(&folder, panic), 2, None);
+        }
+        let left = [&*lag, &panics[1], &panics[2]];
+        assert_eq!(files_in(&folder), files_of(&left, &[]));
+        // A word that is no trigger is in the name of no dump.
+        assert_eq!(dump_of("flight-20260101T0Z-1-1-other.names"), None);
+        remove_all(&folder);
+    }
+
+    #[test]
+    #[cfg_attr(
+        not(target_os = "linux"),
+        ignore = "only Linux says whether a process runs"
+    )]
+    fn a_part_of_a_process_that_was_killed_is_removed_by_the_next_dump() {
+        let folder = fresh("flight-killed");
+        let written = write_dump(&folder, &format!("{}-lag", DAYS[2]));
+        // No system gives a process this number, and the first one always runs.
+        let parts = [u32::MAX, 1].map(|process| {
+            let path = folder.join(format!(
+                "{START}20260103T000000000Z-{process}-1-lag.journal.{process}-0.part"
+            ));
+            fs::write(&path, "").unwrap();
+            let file = fs::File::options().append(true).open(&path).unwrap();
+            let before = SystemTime::now() - 2 * PATIENCE;
+            file.set_modified(before).unwrap();
+            path
+        });
+        keep(&written, 3, None);
+        assert_eq!(parts.map(|part| part.exists()), [false, true]);
         remove_all(&folder);
     }
 

@@ -2,7 +2,7 @@
 
 use super::Effect;
 use crate::channels::channel::{Known, KnownReceiver};
-use crate::run::operation::{CallSet, Kind, Operation};
+use yovanelum_record::operation::{CallSet, Kind, Operation};
 
 /// A call that stands, on a channel.
 pub(super) struct StandingCall<'a> {

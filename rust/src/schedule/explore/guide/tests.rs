@@ -2,6 +2,7 @@
 
 use super::*;
 use crate::channels::channel::KnownReceiver;
+use crate::schedule::explore::fairness::PassedOver;
 use std::cell::RefCell;
 
 thread_local! {
@@ -59,6 +60,7 @@ fn standing(who: &str, what: &str) -> Candidate {
         who: who.into(),
         what,
         number: 0,
+        passed_over: PassedOver::default(),
     }
 }
 

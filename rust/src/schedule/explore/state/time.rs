@@ -2,23 +2,28 @@
 
 use super::ExplorerState;
 use crate::channels::actors::is_over_facade;
-use crate::run::listed::{IntoList, PushAll};
+use crate::schedule::explore::chooser::Candidate;
 use crate::schedule::explore::threads::{SOON, Sleeper};
 use std::thread;
 use std::time::{Duration, Instant};
+use yovanelum_record::listed::{IntoList, PushAll};
 
 /// How long a thread runs, in time of a processor, before the others no longer wait for it.
 const PATIENCE_RUNNING: Duration = Duration::from_millis(12);
 
-/// How much time choices let pass at most where nobody says how long timers are: a limit may be one
-/// of those.
+/// How much time choices let pass at most in a run. A limit may be one of the timers that they let
+/// end, and a loop may set one again and again.
 const TIME_OF_CHOICES: Duration = Duration::from_millis(150);
 
 impl ExplorerState {
     pub(super) fn is_time_near(&self, rest: &[Sleeper]) -> bool {
         let is_near = |sleeper: &Sleeper| !self.vain.contains(sleeper) && sleeper.is_soon();
         let is_sleeper_near = || self.clock.chosen() < TIME_OF_CHOICES && rest.iter().any(is_near);
-        self.is_time_offered && (self.clock.offered().is_some() || is_sleeper_near())
+        let is_timer_near = || {
+            let time = self.clock.offered();
+            time.is_some_and(|time| self.clock.chosen() + time <= TIME_OF_CHOICES)
+        };
+        self.is_time_offered && (is_timer_near() || is_sleeper_near())
     }
 
     /// Lets the next timer end of the run's clock. Without one, waits until one of those who sleep
@@ -53,15 +58,35 @@ impl ExplorerState {
         let moves = self.moves;
         match self.rest() {
             Some(rest) if self.candidates(&rest).is_empty() => {
-                self.clock.everybody_waits(moves, Instant::now());
+                if !self.follows_clock(&[]) {
+                    self.clock.everybody_waits(moves, Instant::now());
+                }
             }
             Some(_) => self.clock.somebody_goes_on(),
             None => match self.runs_on() {
+                // A schedule says when timers end.
+                Some(_) if self.chooser.time().is_some() => self.clock.somebody_goes_on(),
                 Some(ran) => self.clock.one_runs_on(moves, ran),
                 None => self.clock.somebody_goes_on(),
             },
         }
         self.end_timers();
+    }
+
+    /// Lets the clock go on to the time that a schedule has for its next step, where whoever makes
+    /// that isn't there yet. Returns whether a timer has ended by it, which may wake that one.
+    pub(in crate::schedule::explore) fn follows_clock(&mut self, candidates: &[Candidate]) -> bool {
+        let Some((who, time)) = self.chooser.time() else {
+            return false;
+        };
+        let is_there = candidates.iter().any(|one| one.who == *who);
+        let next = self.clock.next().map(|next| self.clock.now() + next);
+        let Some(due) = next.filter(|due| !is_there && *due <= time) else {
+            return false;
+        };
+        self.clock.go_to(due);
+        self.end_timers();
+        true
     }
 
     /// Has those woken who wait for timers that have ended.

@@ -9,8 +9,8 @@ use crate::channels::backend::Actor;
 use crate::channels::block_on::is_blocked_on_future;
 use crate::channels::reentrant::thread_number;
 use crate::channels::turns::Ticket;
-use crate::run::operation::CallSet;
 use std::task::{Context, Poll};
+use yovanelum_record::operation::CallSet;
 
 /// How much longer than threads futures wait: they keep no thread away from the others.
 const PATIENCE_OF_FUTURES: u32 = 5;
@@ -106,6 +106,27 @@ impl Gate {
         is_held
     }
 
+    /// Whether the poll of the task with this name is held back, if it makes no call in the
+    /// journal: one that comes behind those would block its thread, which may be the one that polls
+    /// others.
+    pub(in crate::schedule::replay) fn holds_unknown(
+        &self,
+        name: &str,
+        context: &Context<'_>,
+    ) -> bool {
+        // Some tasks may have calls there that don't say whose they are.
+        let may_be_known = self.plan.actor_named(name).is_some() || self.plan.has_unnamed_tasks();
+        if self.entrance.is_over() || may_be_known || is_blocked_on_future() {
+            return false;
+        }
+        let waker = context.waker().clone();
+        let mut state = self.entrance.enter();
+        let is_held = !state.is_over && state.holds_unknown(name, waker);
+        self.entrance.keep_awake(state.is_helper_idle);
+        drop(state);
+        is_held
+    }
+
     /// Whether this actor may block where it is polled now, so that its thread doesn't run the
     /// actor whose turn has come.
     fn may_block_turn(&self, state: &GateState, actor: u32) -> bool {
@@ -150,6 +171,7 @@ impl Gate {
                 state.release(actor as u32);
             }
         }
+        state.release_unknown(|held| is_at_rest || idle(held.since) >= self.hold);
         // The blocked thread may be the worker that drives its runtime's timers, and the turn that
         // of a task that sleeps. When a task is woken, another worker gets up, finds nobody at the
         // timers, and drives them.

@@ -6,9 +6,9 @@ use super::super::outcome;
 use super::{Gate, TurnFor};
 use crate::channels::standard_error::say;
 use crate::channels::turns::{ArrivingCall, TestEnd, Ticket, Turns};
-use crate::run::sidecar::Maker;
 use std::mem;
 use std::task::{Context, Poll};
+use yovanelum_record::sidecar::Maker;
 
 impl Turns for Gate {
     fn follows_journal(&self) -> bool {

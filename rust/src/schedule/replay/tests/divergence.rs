@@ -6,11 +6,11 @@ use super::{
 };
 use crate::channels::block_on::block_on;
 use crate::channels::turns::{ArrivingCall, Turns};
-use crate::run::operation::Operation;
 use std::future::poll_fn;
 use std::task::{Context, Poll};
 use std::thread;
 use std::time::Duration;
+use yovanelum_record::operation::Operation;
 
 #[test]
 fn another_call_parts_at_once() {

@@ -5,11 +5,11 @@ use super::{
     gate_without_helper, make, make_first, ordered, poll, told,
 };
 use crate::channels::turns::Turns;
-use crate::run::operation::Operation;
 use std::sync::atomic::Ordering;
 use std::sync::mpsc::Receiver;
 use std::task::Context;
 use std::thread;
+use yovanelum_record::operation::Operation;
 
 #[test]
 fn a_future_is_pending_until_its_turn_and_woken_by_the_helper() {

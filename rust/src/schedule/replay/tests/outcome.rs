@@ -6,10 +6,10 @@ use super::{
 };
 use crate::channels::recorder::NotedPanic;
 use crate::channels::turns::{ArrivingCall, TestEnd, Turns};
-use crate::run::operation::Operation;
 use crate::schedule::replay::Gate;
 use std::sync::Arc;
 use std::thread;
+use yovanelum_record::operation::Operation;
 
 /// The last call of the journal.
 fn last() -> ArrivingCall {

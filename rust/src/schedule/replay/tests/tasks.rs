@@ -2,12 +2,12 @@
 
 use super::{AUDIT, CLERK, NAMES, PATIENT, call, gate_of, make, poll, told};
 use crate::channels::block_on::block_on;
-use crate::run::operation::Operation;
 use crate::schedule::replay::Gate;
 use std::future::poll_fn;
 use std::sync::Arc;
 use std::task::{Poll, Waker};
 use std::thread;
+use yovanelum_record::operation::Operation;
 
 /// The gate of three receives by one receiver, once its sender is dropped.
 fn gate() -> Arc<Gate> {
