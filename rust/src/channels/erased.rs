@@ -42,8 +42,8 @@ impl<T> Erased for T {
 ///
 /// # Safety
 ///
-/// The function keeps nothing of the value, and returns nothing of it: a `&'static str` that it
-/// finds may be freed later.
+/// The function must neither keep nor return a reference into the value, not even a
+/// `&'static str`: its real lifetime may be shorter.
 unsafe fn read<T, R>(value: &T, read: impl FnOnce(&dyn Any) -> R) -> R {
     let erased: &dyn Erased = value;
     // SAFETY: both types are the same but for a lifetime, which no layout and no table of functions
@@ -170,7 +170,7 @@ pub(crate) fn known_text_of<T>(value: &T) -> Option<String> {
         let reader = reader_of(value.type_id())?;
         Some(reader(value)?.text())
     };
-    // SAFETY: it writes a text, and keeps no more than that.
+    // SAFETY: the closure returns an owned `String`, and keeps no reference to the value.
     unsafe { read(value, read_text) }
 }
 
@@ -226,7 +226,7 @@ fn known_error_in<T>(output: &T) -> Option<String> {
         let error = errors.iter().find_map(|error| *error)?;
         Some(format!("{error:?}"))
     };
-    // SAFETY: it writes a text, and keeps no more than that.
+    // SAFETY: the closure returns an owned `String`, and keeps no reference to the value.
     unsafe { read(output, read_text) }
 }
 

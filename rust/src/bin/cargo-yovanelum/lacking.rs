@@ -29,7 +29,8 @@ const LATER: [&str; 21] = [
     "watch::Receiver::mark_unchanged",
 ];
 
-/// What tokio's panic says since it has these words, and what stands in the list where it doesn't.
+/// The message with which newer versions of tokio panic for a capacity of 0, and its name in the
+/// list of what a version lacks.
 const CAPACITY_WORDS: (&str, &str) = (
     "broadcast channel capacity cannot be zero",
     "broadcast::channel's words of a capacity",
