@@ -26,66 +26,19 @@ use Rattle.rw_steps.specs.Replies.{of_broadcast, of_watch, of_reply, of_fault, o
 use Rattle.rw_steps.specs.Steps.{counts_in, drops, told_in, told_if}
 
 of_broadcasts : (dropped : Option WaitFor) (reply : BReply ℕ) → told_with dropped (of_broadcast reply) ≡ broadcast.told_after_reply dropped reply
-of_broadcasts dropped (b.Sent n) = refl
-of_broadcasts dropped (b.NoReceivers v) = refl
-of_broadcasts dropped (b.Value v) = refl
-of_broadcasts dropped (b.Lagged n) = refl
-of_broadcasts dropped b.Empty = refl
-of_broadcasts dropped b.Closed = refl
-of_broadcasts dropped b.Waits = refl
-of_broadcasts dropped (b.New h) = refl
 of_broadcasts dropped b.Dropped = refl
-of_broadcasts dropped (b.Count n) = refl
-of_broadcasts dropped b.Unknown = refl
-of_broadcasts dropped b.Gone = refl
-of_broadcasts dropped b.WrongKind = refl
-of_broadcasts dropped b.TooManyHandles = refl
-of_broadcasts dropped b.NoSender = refl
+of_broadcasts dropped _ = refl
 
 of_watches : (dropped : Option WaitFor) (reply : WReply ℕ) → told_with dropped (of_watch reply) ≡ watch.told_after_reply dropped reply
-of_watches dropped w.Stored = refl
-of_watches dropped (w.NoReceivers v) = refl
-of_watches dropped (w.Old v) = refl
 of_watches dropped (w.Told true) = refl
 of_watches dropped (w.Told false) = refl
-of_watches dropped (w.New h) = refl
-of_watches dropped (w.Value v) = refl
 of_watches dropped (w.Flag true) = refl
 of_watches dropped (w.Flag false) = refl
-of_watches dropped w.Closed = refl
-of_watches dropped w.Waits = refl
-of_watches dropped w.Done = refl
-of_watches dropped (w.Count n) = refl
-of_watches dropped w.Dropped = refl
-of_watches dropped w.Unknown = refl
-of_watches dropped w.Gone = refl
-of_watches dropped w.WrongKind = refl
-of_watches dropped w.TooManyHandles = refl
+of_watches dropped _ = refl
 
 pub alone : (reply : Reply) → told_with None reply ≡ told reply
-alone (r.Sent n) = refl
-alone (r.NoReceivers n) = refl
-alone (r.Value n) = refl
-alone (r.Lagged n) = refl
-alone r.Empty = refl
-alone r.Closed = refl
-alone (r.New n) = refl
 alone r.Dropped = refl
-alone (r.Count n) = refl
-alone r.Stored = refl
-alone (r.Old n) = refl
-alone (r.Told n) = refl
-alone (r.Flag n) = refl
-alone r.Done = refl
-alone r.NoSender = refl
-alone r.Waits = refl
-alone r.Unknown = refl
-alone r.Gone = refl
-alone r.WrongKind = refl
-alone r.TooManyHandles = refl
-alone r.NoChannel = refl
-alone r.JournalFull = refl
-alone r.NoMemory = refl
+alone _ = refl
 
 -- if it drops no handle, its reply tells what it told
 pub told_alone : (x : ChanShown ℕ) (c : ChanCall ℕ) → drops c ≡ false → told (of_reply (of_chan.reply_of x c)) ≡ told_in x c
@@ -108,10 +61,8 @@ told_counted (watch_shown y) (call.W d) =
 
 -- a call that isn't made tells nobody
 of_faults : (dropped : Option WaitFor) (fault : TakeFault) → told_with dropped (of_fault fault) ≡ None
-of_faults dropped f.JournalFull = refl
-of_faults dropped f.NoMemory = refl
 of_faults dropped f.Waits = refl
-of_faults dropped f.NoChannel = refl
+of_faults dropped _ = refl
 
 module _ (x : ChanShown ℕ) (c : ChanCall ℕ) where
   pub told_by_flat : (made : Result (ChanReply ℕ) TakeFault) (reply : Reply) → drops c ≡ false → reply ≡ of_made made

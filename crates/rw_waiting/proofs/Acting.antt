@@ -65,37 +65,30 @@ told_gives l (Some NoReceiver) Value = refl
 told_gives l (Some NoReceiver) NoReceiver = refl
 
 module _ {V C : Type 0} (w : Waitable V C) {W : Type 0} where
+  -- a step leaves of each queue what its act does, and wakes whom its act gives out
+  acts_and_gives : (x : V) (l : Listed W) (s : Step C W) (what : WaitFor)
+      → (waiting_for (listed_after w x l s) what ≡ act_on (act_of w x s what) (waiting_for l what))
+      × (woken_by w x l s what ≡ given (act_of w x s what) (waiting_for l what))
+  acts_and_gives x l (Make c) what = (told_acts l (w.told x c) what, told_gives l (w.told x c) what)
+  acts_and_gives x l Renumber what = (refl, refl)
+  acts_and_gives x l (Begin Value waker) Value = (refl, refl)
+  acts_and_gives x l (Begin Value waker) NoReceiver = (refl, refl)
+  acts_and_gives x l (Begin NoReceiver waker) Value = (refl, refl)
+  acts_and_gives x l (Begin NoReceiver waker) NoReceiver = (refl, refl)
+  acts_and_gives x l (Renew Value t waker) Value = (refl, refl)
+  acts_and_gives x l (Renew Value t waker) NoReceiver = (refl, refl)
+  acts_and_gives x l (Renew NoReceiver t waker) Value = (refl, refl)
+  acts_and_gives x l (Renew NoReceiver t waker) NoReceiver = (refl, refl)
+  acts_and_gives x l (GiveUp Value t) Value = (refl, refl)
+  acts_and_gives x l (GiveUp Value t) NoReceiver = (refl, refl)
+  acts_and_gives x l (GiveUp NoReceiver t) Value = (refl, refl)
+  acts_and_gives x l (GiveUp NoReceiver t) NoReceiver = (refl, refl)
+
   pub acts : (x : V) (l : Listed W) (s : Step C W) (what : WaitFor) → waiting_for (listed_after w x l s) what ≡ act_on (act_of w x s what) (waiting_for l what)
-  acts x l (Make c) what = told_acts l (w.told x c) what
-  acts x l (Begin Value waker) Value = refl
-  acts x l (Begin Value waker) NoReceiver = refl
-  acts x l (Begin NoReceiver waker) Value = refl
-  acts x l (Begin NoReceiver waker) NoReceiver = refl
-  acts x l (Renew Value t waker) Value = refl
-  acts x l (Renew Value t waker) NoReceiver = refl
-  acts x l (Renew NoReceiver t waker) Value = refl
-  acts x l (Renew NoReceiver t waker) NoReceiver = refl
-  acts x l Renumber what = refl
-  acts x l (GiveUp Value t) Value = refl
-  acts x l (GiveUp Value t) NoReceiver = refl
-  acts x l (GiveUp NoReceiver t) Value = refl
-  acts x l (GiveUp NoReceiver t) NoReceiver = refl
+  acts x l s what = (acts_and_gives x l s what).0
 
   pub gives : (x : V) (l : Listed W) (s : Step C W) (what : WaitFor) → woken_by w x l s what ≡ given (act_of w x s what) (waiting_for l what)
-  gives x l (Make c) what = told_gives l (w.told x c) what
-  gives x l (Begin Value waker) Value = refl
-  gives x l (Begin Value waker) NoReceiver = refl
-  gives x l (Begin NoReceiver waker) Value = refl
-  gives x l (Begin NoReceiver waker) NoReceiver = refl
-  gives x l (Renew Value t waker) Value = refl
-  gives x l (Renew Value t waker) NoReceiver = refl
-  gives x l (Renew NoReceiver t waker) Value = refl
-  gives x l (Renew NoReceiver t waker) NoReceiver = refl
-  gives x l Renumber what = refl
-  gives x l (GiveUp Value t) Value = refl
-  gives x l (GiveUp Value t) NoReceiver = refl
-  gives x l (GiveUp NoReceiver t) Value = refl
-  gives x l (GiveUp NoReceiver t) NoReceiver = refl
+  gives x l s what = (acts_and_gives x l s what).1
 
 pub next_grows : {W : Type 0} (a : Act W) (q : Queued W) → q.next ≤ (act_on a q).next
 next_grows Same q = omega arith

@@ -1,7 +1,13 @@
 -- Counts of handles, and what an `if` tells.
-use Rattle.std.proofs.Common.{◌≡◌, ℕ, zero, suc, ◌+◌, ◌<◌, Bool, true, false, cond, refl, arith}
-use Rattle.std.specs.Prelude.{Some, None, ◌==◌}
+use Rattle.std.proofs.Common.{set, ◌≡◌, ℕ, zero, suc, ◌+◌, ◌<◌, Bool, true, false, cond, List, refl, arith}
+use Rattle.std.specs.Prelude.{Some, None, slice_get, ◌==◌}
 use Rattle.std.proofs.lemmas.Bool.{ne_eqb, eqb-true, eqb-false}
+use Rattle.rw_handles.specs.declared.kinds.Kind.{Kind}
+use Rattle.rw_handles.specs.declared.kinds.Kind.TheVariants.{Sender, Receiver, Weak}
+use Rattle.rw_handles.specs.declared.kinds.Slot.{Slot}
+use Rattle.rw_handles.specs.declared.kinds.Slot.TheVariants.{Live, Spent}
+use Rattle.rw_handles.specs.Slots.{alive}
+use Rattle.rw_handles.proofs.Tallies.{alive-set}
 use Rattle.rw_waiting.specs.declared.notices.WaitFor.{WaitFor}
 
 pub some_of : (n : ℕ) → (n == 0) ≡ false → 0 < n
@@ -15,6 +21,17 @@ pub many_of : (n : ℕ) → (n == 1) ≡ false → 0 < n → 1 < n
 many_of zero two some = absurd (omega (arith, some))
 many_of (suc zero) two some = absurd cc
 many_of (suc (suc n)) two some = omega arith
+
+-- where a handle is dropped, one of kind k stays alive, unless it was the last
+pub still_alive : {X : Type 0} (k kind : Kind) (slots : List (Slot X)) (id : ℕ) (x : X) → slice_get slots id ≡ Some (Live kind x)
+    → (kind ≡ k → (alive k slots == 1) ≡ false) → 0 < alive k slots → 0 < alive k (set slots id Spent)
+still_alive Sender Sender slots id x at more some =
+    omega (arith, alive-set Sender slots id (Live Sender x) Spent at, many_of (alive Sender slots) (more refl) some)
+still_alive Receiver Receiver slots id x at more some =
+    omega (arith, alive-set Receiver slots id (Live Receiver x) Spent at, many_of (alive Receiver slots) (more refl) some)
+still_alive Weak Weak slots id x at more some =
+    omega (arith, alive-set Weak slots id (Live Weak x) Spent at, many_of (alive Weak slots) (more refl) some)
+still_alive k kind slots id x at more some = omega (arith, alive-set k slots id (Live kind x) Spent at, some)
 
 pub if_is : (b : Bool) (what : WaitFor) → (cond b (Some what) None ≡ Some what → ⊥) → b ≡ false
 if_is true what untold = absurd (untold refl)

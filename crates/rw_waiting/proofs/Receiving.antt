@@ -32,7 +32,7 @@ use Rattle.rw_waiting.specs.Broadcasts.{Waits as WaitsFor}
 use Rattle.rw_waiting.specs.Waitable.{WaitLaws}
 use Rattle.rw_waiting.specs.Renumbered.{number_among}
 use Rattle.rw_waiting.proofs.Renumbering.{found_live, has_numbers, alive_live, all_live}
-use Rattle.rw_waiting.proofs.Counting.{some_of, not_none, many_of, if_is, if_so, if_else, one_less}
+use Rattle.rw_waiting.proofs.Counting.{some_of, not_none, still_alive, if_is, if_so, if_else, one_less}
 
 abbrev WaitsForValue : {V : Type 0} → Shown V → ℕ → Type 0
 WaitsForValue x h = WaitsFor x wait.Value h
@@ -257,19 +257,20 @@ module _ {V : Type 0} (x : Shown V) (ok : IsAllowed x) where
 
 -- ---- who waits for a value
 
--- a sender stays alive
+-- a handle of this kind stays alive, unless its last one is dropped
+still_some : {V : Type 0} (k : Kind) (x : Shown V) (call : BCall V) (c : Change V) → ((g : ℕ) (p : ℕ) → c ≡ Leave g k p → (alive k x.slots == 1) ≡ false)
+    → 0 < alive k x.slots → IsMadeBy x call c → 0 < alive k (with_change x c).slots
+unfolding IsMadeBy
+still_some k x call Keep more some made = some
+still_some k x call (Append v) more some made = some
+still_some k x call (Make kind p) more some made = omega (arith, alive-push k x.slots (Live kind p), some)
+still_some k x call (Move g from to) more some made = omega (arith, alive-set k x.slots g (Live Receiver from) (Live Receiver to) made.1, some)
+still_some k x call (Leave g kind p) more some made =
+    still_alive k kind x.slots g p made.1 (λ same. more g p (ap (λ one. Leave g one p) same)) some
+
 still_open : {V : Type 0} (x : Shown V) (call : BCall V) (c : Change V) → 0 < alive Sender x.slots → IsMadeBy x call c
     → tells_value (channel_of x) c ≡ false → 0 < alive Sender (with_change x c).slots
-unfolding IsMadeBy
-still_open x call Keep some made quiet = some
-still_open x call (Append v) some made quiet = some
-still_open x call (Make kind p) some made quiet = omega (arith, alive-push Sender x.slots (Live kind p), some)
-still_open x call (Move g from to) some made quiet =
-    omega (arith, alive-set Sender x.slots g (Live Receiver from) (Live Receiver to) made.1, some)
-still_open x call (Leave g Sender p) some made quiet =
-    omega (arith, alive-set Sender x.slots g (Live Sender p) Spent made.1, many_of (alive Sender x.slots) quiet some)
-still_open x call (Leave g Receiver p) some made quiet = omega (arith, alive-set Sender x.slots g (Live Receiver p) Spent made.1, some)
-still_open x call (Leave g Weak p) some made quiet = omega (arith, alive-set Sender x.slots g (Live Weak p) Spent made.1, some)
+still_open x call c some made quiet = still_some Sender x call c (λ g p is. sym (ap (tells_value (channel_of x)) is) ∙ quiet) some made
 
 -- a receiver at the end stays there, unless the call drops it
 stays : {V : Type 0} (x : Shown V) (call : BCall V) (c : Change V) (h : ℕ) → (Drops call h → ⊥) → IsMadeBy x call c → IsBehind x c
@@ -374,16 +375,7 @@ stays_sender x call (Leave g kind q) h p kept made here = get_set_other x.slots 
 
 still_received : {V : Type 0} (x : Shown V) (call : BCall V) (c : Change V) → 0 < alive Receiver x.slots → IsMadeBy x call c
     → tells_no_receiver (channel_of x) c ≡ false → 0 < alive Receiver (with_change x c).slots
-unfolding IsMadeBy
-still_received x call Keep some made quiet = some
-still_received x call (Append v) some made quiet = some
-still_received x call (Make kind p) some made quiet = omega (arith, alive-push Receiver x.slots (Live kind p), some)
-still_received x call (Move g from to) some made quiet =
-    omega (arith, alive-set Receiver x.slots g (Live Receiver from) (Live Receiver to) made.1, some)
-still_received x call (Leave g Receiver p) some made quiet =
-    omega (arith, alive-set Receiver x.slots g (Live Receiver p) Spent made.1, many_of (alive Receiver x.slots) quiet some)
-still_received x call (Leave g Sender p) some made quiet = omega (arith, alive-set Receiver x.slots g (Live Sender p) Spent made.1, some)
-still_received x call (Leave g Weak p) some made quiet = omega (arith, alive-set Receiver x.slots g (Live Weak p) Spent made.1, some)
+still_received x call c some made quiet = still_some Receiver x call c (λ g p is. sym (ap (tells_no_receiver (channel_of x)) is) ∙ quiet) some made
 
 waits_on_for_none : {V : Type 0} (x : Shown V) (h : ℕ) (call : BCall V) → WaitsForNoReceiver x h → (Drops call h → ⊥)
     → tells_no_receiver (channel_of x) (effect (channel_of x) call).0 ≡ false → WaitsForNoReceiver (next x call) h

@@ -9,8 +9,8 @@ use Rattle.rw_handles.specs.Slots.{lookup}
 use Rattle.rw_handles.proofs.Checks.{of_checked}
 use Rattle.rw_handles.proofs.SlotLaws.{found_at_is}
 use Rattle.rw_broadcast.specs.declared.calls.BCall.{BCall}
-use Rattle.rw_broadcast.specs.declared.calls.BCall.TheVariants.{Send, Subscribe, CloneSender, Resubscribe, TryRecv, Recv, DropHandle}
-use Rattle.rw_broadcast.specs.declared.calls.BCall.TheVariants.{SenderLen, ReceiverCount, ReceiverLen, Downgrade, Upgrade, CloneWeak}
+use Rattle.rw_broadcast.specs.declared.calls.BCall.TheVariants.{Send, TryRecv, Recv, DropHandle}
+use Rattle.rw_broadcast.specs.declared.calls.BCall.TheVariants.{Upgrade}
 use Rattle.rw_broadcast.specs.declared.calls.BReply.{BReply}
 use Rattle.rw_broadcast.specs.declared.calls.BReply.TheVariants.{Sent, Empty, Closed, Waits, TooManyHandles}
 use Rattle.rw_broadcast.specs.Arithmetic.{lag}
@@ -66,18 +66,11 @@ by_call_says : {V : Type 0} (dropped : Shown V → Option WaitFor) (x : Shown V)
     → Says dropped x call (effect_with (channel_of x) call kind p)
 by_call_says dropped x (Send g v) kind p at is =
     says_if dropped x (Send g v) (receivers (channel_of x) == 0) _ _ refl (says_sent dropped x (Send g v) v (receivers (channel_of x)) _ refl)
-by_call_says dropped x (Subscribe g) kind p at is = refl
-by_call_says dropped x (CloneSender g) kind p at is = refl
-by_call_says dropped x (Resubscribe g) kind p at is = refl
 by_call_says dropped x (TryRecv g) kind p at is = says_receive dropped x (TryRecv g) g p Empty refl
 by_call_says dropped x (Recv g) kind p at is = says_receive dropped x (Recv g) g p Waits refl
 by_call_says dropped x (DropHandle g) kind p at is = at
-by_call_says dropped x (SenderLen g) kind p at is = refl
-by_call_says dropped x (ReceiverCount g) kind p at is = refl
-by_call_says dropped x (ReceiverLen g) kind p at is = refl
-by_call_says dropped x (Downgrade g) kind p at is = refl
 by_call_says dropped x (Upgrade g) kind p at is = says_if dropped x (Upgrade g) (is_closed (channel_of x)) _ _ refl refl
-by_call_says dropped x (CloneWeak g) kind p at is = refl
+by_call_says dropped x _ kind p at is = refl
 
 -- the counts before and after it do
 abbrev by_counts : {V : Type 0} → Shown V → Shown V → Option WaitFor
@@ -85,34 +78,12 @@ by_counts x y = told_by_counts (counts_of x.slots) (counts_of y.slots)
 
 counted : {V : Type 0} (x : Shown V) (call : BCall V) (kind : Kind) (p : ℕ) → lookup (wanted_kind call) x.slots (handle_of call) ≡ Handle kind p
     → AtDrop (by_counts x) x call kind p
-counted x (Send g v) kind p is = tt
-counted x (Subscribe g) kind p is = tt
-counted x (CloneSender g) kind p is = tt
-counted x (Resubscribe g) kind p is = tt
-counted x (TryRecv g) kind p is = tt
-counted x (Recv g) kind p is = tt
-counted x (SenderLen g) kind p is = tt
-counted x (ReceiverCount g) kind p is = tt
-counted x (ReceiverLen g) kind p is = tt
-counted x (Downgrade g) kind p is = tt
-counted x (Upgrade g) kind p is = tt
-counted x (CloneWeak g) kind p is = tt
 counted x (DropHandle g) kind p is = told_as_counted x.slots g p kind (found_at_is None _ kind p is)
+counted x _ kind p is = tt
 
 no_drop : {V : Type 0} (x : Shown V) (call : BCall V) (kind : Kind) (p : ℕ) → drops call ≡ false → AtDrop (λ y. None) x call kind p
-no_drop x (Send g v) kind p is = tt
-no_drop x (Subscribe g) kind p is = tt
-no_drop x (CloneSender g) kind p is = tt
-no_drop x (Resubscribe g) kind p is = tt
-no_drop x (TryRecv g) kind p is = tt
-no_drop x (Recv g) kind p is = tt
-no_drop x (SenderLen g) kind p is = tt
-no_drop x (ReceiverCount g) kind p is = tt
-no_drop x (ReceiverLen g) kind p is = tt
-no_drop x (Downgrade g) kind p is = tt
-no_drop x (Upgrade g) kind p is = tt
-no_drop x (CloneWeak g) kind p is = tt
 no_drop x (DropHandle g) kind p is = absurd cc
+no_drop x _ kind p is = tt
 
 module _ {V : Type 0} (dropped : Shown V → Option WaitFor) (x : Shown V) (call : BCall V) where
   says_call : ((kind : Kind) (p : ℕ) → lookup (wanted_kind call) x.slots (handle_of call) ≡ Handle kind p → AtDrop dropped x call kind p)

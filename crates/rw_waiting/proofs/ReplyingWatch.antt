@@ -9,8 +9,8 @@ use Rattle.rw_handles.specs.Slots.{lookup, alive}
 use Rattle.rw_handles.proofs.Checks.{of_checked}
 use Rattle.rw_handles.proofs.SlotLaws.{found_at_is}
 use Rattle.rw_watch.specs.declared.calls.WCall.{WCall}
-use Rattle.rw_watch.specs.declared.calls.WCall.TheVariants.{Send, SendReplace, Modify, Subscribe, CloneSender, CloneReceiver, Borrow, Update, HasChanged}
-use Rattle.rw_watch.specs.declared.calls.WCall.TheVariants.{Changed, MarkChanged, MarkUnchanged, DropHandle, ReceiverCount, IsClosed, AwaitClosed}
+use Rattle.rw_watch.specs.declared.calls.WCall.TheVariants.{Send, Update, HasChanged}
+use Rattle.rw_watch.specs.declared.calls.WCall.TheVariants.{Changed, MarkChanged, MarkUnchanged, DropHandle, AwaitClosed}
 use Rattle.rw_watch.specs.declared.calls.WReply.{WReply}
 use Rattle.rw_watch.specs.declared.calls.WReply.TheVariants.{TooManyHandles}
 use Rattle.rw_watch.specs.Channel.{Change, Keep, Mark, Leave, handle_of, wanted_kind, makes, is_unseen}
@@ -57,12 +57,6 @@ by_call_says : {V : Type 0} (dropped : Shown V → Option WaitFor) (x : Shown V)
     → lookup (wanted_kind call) x.slots (handle_of call) ≡ Handle kind m
     → Says dropped x call (effect_with x call kind m)
 by_call_says dropped x (Send g v) kind m at is = says_if dropped x (Send g v) (has_no_receiver x) _ _ refl refl
-by_call_says dropped x (SendReplace g v) kind m at is = refl
-by_call_says dropped x (Modify notified g v) kind m at is = refl
-by_call_says dropped x (Subscribe g) kind m at is = refl
-by_call_says dropped x (CloneSender g) kind m at is = refl
-by_call_says dropped x (CloneReceiver g) kind m at is = refl
-by_call_says dropped x (Borrow g) kind m at is = refl
 by_call_says dropped x (Update g) kind m at is = says_mark dropped x (Update g) g m (Some x.version)
 by_call_says dropped x (HasChanged g) kind m at is = says_kept dropped x (HasChanged g) (is_closed x) _ _ refl refl
 by_call_says dropped x (Changed g) kind m at is =
@@ -71,9 +65,8 @@ by_call_says dropped x (Changed g) kind m at is =
 by_call_says dropped x (MarkChanged g) kind m at is = says_mark dropped x (MarkChanged g) g m None
 by_call_says dropped x (MarkUnchanged g) kind m at is = says_mark dropped x (MarkUnchanged g) g m (Some x.version)
 by_call_says dropped x (DropHandle g) kind m at is = at
-by_call_says dropped x (ReceiverCount g) kind m at is = refl
-by_call_says dropped x (IsClosed g) kind m at is = refl
 by_call_says dropped x (AwaitClosed g) kind m at is = says_kept dropped x (AwaitClosed g) (has_no_receiver x) _ _ refl refl
+by_call_says dropped x _ kind m at is = refl
 
 -- the counts before and after it do
 abbrev by_counts : {V : Type 0} → Shown V → Shown V → Option WaitFor
@@ -81,40 +74,12 @@ by_counts x y = told_by_counts (counts_of x.slots) (counts_of y.slots)
 
 counted : {V : Type 0} (x : Shown V) (call : WCall V) (kind : Kind) (m : Option ℕ) → lookup (wanted_kind call) x.slots (handle_of call) ≡ Handle kind m
     → AtDrop (by_counts x) x call kind m
-counted x (Send g v) kind m is = tt
-counted x (SendReplace g v) kind m is = tt
-counted x (Modify notified g v) kind m is = tt
-counted x (Subscribe g) kind m is = tt
-counted x (CloneSender g) kind m is = tt
-counted x (CloneReceiver g) kind m is = tt
-counted x (Borrow g) kind m is = tt
-counted x (Update g) kind m is = tt
-counted x (HasChanged g) kind m is = tt
-counted x (Changed g) kind m is = tt
-counted x (MarkChanged g) kind m is = tt
-counted x (MarkUnchanged g) kind m is = tt
-counted x (ReceiverCount g) kind m is = tt
-counted x (IsClosed g) kind m is = tt
-counted x (AwaitClosed g) kind m is = tt
 counted x (DropHandle g) kind m is = told_as_counted x.slots g m kind (found_at_is None _ kind m is) ∙ says_drop (with_change x (Leave g kind m)) kind m
+counted x _ kind m is = tt
 
 no_drop : {V : Type 0} (x : Shown V) (call : WCall V) (kind : Kind) (m : Option ℕ) → drops call ≡ false → AtDrop (λ y. None) x call kind m
-no_drop x (Send g v) kind m is = tt
-no_drop x (SendReplace g v) kind m is = tt
-no_drop x (Modify notified g v) kind m is = tt
-no_drop x (Subscribe g) kind m is = tt
-no_drop x (CloneSender g) kind m is = tt
-no_drop x (CloneReceiver g) kind m is = tt
-no_drop x (Borrow g) kind m is = tt
-no_drop x (Update g) kind m is = tt
-no_drop x (HasChanged g) kind m is = tt
-no_drop x (Changed g) kind m is = tt
-no_drop x (MarkChanged g) kind m is = tt
-no_drop x (MarkUnchanged g) kind m is = tt
-no_drop x (ReceiverCount g) kind m is = tt
-no_drop x (IsClosed g) kind m is = tt
-no_drop x (AwaitClosed g) kind m is = tt
 no_drop x (DropHandle g) kind m is = absurd cc
+no_drop x _ kind m is = tt
 
 module _ {V : Type 0} (dropped : Shown V → Option WaitFor) (x : Shown V) (call : WCall V) where
   says_call : ((kind : Kind) (m : Option ℕ) → lookup (wanted_kind call) x.slots (handle_of call) ≡ Handle kind m → AtDrop dropped x call kind m)

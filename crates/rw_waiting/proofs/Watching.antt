@@ -31,7 +31,7 @@ use Rattle.rw_waiting.specs.Watches.{Waits as WaitsFor}
 use Rattle.rw_waiting.specs.Waitable.{WaitLaws}
 use Rattle.rw_waiting.specs.Renumbered.{number_among}
 use Rattle.rw_waiting.proofs.Renumbering.{found_live, has_numbers, alive_live, all_live}
-use Rattle.rw_waiting.proofs.Counting.{some_of, not_none, many_of, if_is, if_so, if_else, one_less}
+use Rattle.rw_waiting.proofs.Counting.{some_of, not_none, still_alive, if_is, if_so, if_else, one_less}
 
 -- whether a change tells those who wait for a change, and those who wait for no receiver
 abbrev tells_value : {V : Type 0} → Channel V → Change V → Bool
@@ -201,18 +201,20 @@ module _ {V : Type 0} (x : Shown V) where
 
 -- ---- who waits for a change
 
+-- a handle of this kind stays alive, unless its last one is dropped
+still_some : {V : Type 0} (k : Kind) (x : Shown V) (call : WCall V) (c : Change V) → ((g : ℕ) (m : Option ℕ) → c ≡ Leave g k m → (alive k x.slots == 1) ≡ false)
+    → 0 < alive k x.slots → IsMadeBy x call c → 0 < alive k (with_change x c).slots
+unfolding IsMadeBy
+still_some k x call Keep more some made = some
+still_some k x call (Write v notified) more some made = some
+still_some k x call (Make kind m) more some made = omega (arith, alive-push k x.slots (Live kind m), some)
+still_some k x call (Mark g from to) more some made = omega (arith, alive-set k x.slots g (Live Receiver from) (Live Receiver to) made.1, some)
+still_some k x call (Leave g kind m) more some made =
+    still_alive k kind x.slots g m made.1 (λ same. more g m (ap (λ one. Leave g one m) same)) some
+
 still_open : {V : Type 0} (x : Shown V) (call : WCall V) (c : Change V) → 0 < alive Sender x.slots → IsMadeBy x call c
     → tells_value x c ≡ false → 0 < alive Sender (with_change x c).slots
-unfolding IsMadeBy
-still_open x call Keep some made quiet = some
-still_open x call (Write v notified) some made quiet = some
-still_open x call (Make kind m) some made quiet = omega (arith, alive-push Sender x.slots (Live kind m), some)
-still_open x call (Mark g from to) some made quiet =
-    omega (arith, alive-set Sender x.slots g (Live Receiver from) (Live Receiver to) made.1, some)
-still_open x call (Leave g Sender m) some made quiet =
-    omega (arith, alive-set Sender x.slots g (Live Sender m) Spent made.1, many_of (alive Sender x.slots) quiet some)
-still_open x call (Leave g Receiver m) some made quiet = omega (arith, alive-set Sender x.slots g (Live Receiver m) Spent made.1, some)
-still_open x call (Leave g Weak m) some made quiet = omega (arith, alive-set Sender x.slots g (Live Weak m) Spent made.1, some)
+still_open x call c some made quiet = still_some Sender x call c (λ g m is. sym (ap (tells_value x) is) ∙ quiet) some made
 
 -- a receiver that has seen the value still has, unless the call drops it or marks the value as not seen
 stays : {V : Type 0} (x : Shown V) (call : WCall V) (c : Change V) (h : ℕ) → (Drops call h → ⊥) → (Unsees call h → ⊥) → IsMadeBy x call c
@@ -317,16 +319,7 @@ stays_sender x call (Leave g kind q) h p kept made here = get_set_other x.slots 
 
 still_received : {V : Type 0} (x : Shown V) (call : WCall V) (c : Change V) → 0 < alive Receiver x.slots → IsMadeBy x call c
     → tells_no_receiver x c ≡ false → 0 < alive Receiver (with_change x c).slots
-unfolding IsMadeBy
-still_received x call Keep some made quiet = some
-still_received x call (Write v notified) some made quiet = some
-still_received x call (Make kind m) some made quiet = omega (arith, alive-push Receiver x.slots (Live kind m), some)
-still_received x call (Mark g from to) some made quiet =
-    omega (arith, alive-set Receiver x.slots g (Live Receiver from) (Live Receiver to) made.1, some)
-still_received x call (Leave g Receiver m) some made quiet =
-    omega (arith, alive-set Receiver x.slots g (Live Receiver m) Spent made.1, many_of (alive Receiver x.slots) quiet some)
-still_received x call (Leave g Sender m) some made quiet = omega (arith, alive-set Receiver x.slots g (Live Sender m) Spent made.1, some)
-still_received x call (Leave g Weak m) some made quiet = omega (arith, alive-set Receiver x.slots g (Live Weak m) Spent made.1, some)
+still_received x call c some made quiet = still_some Receiver x call c (λ g m is. sym (ap (tells_no_receiver x) is) ∙ quiet) some made
 
 waits_on_for_none : {V : Type 0} (x : Shown V) (h : ℕ) (call : WCall V) → WaitsFor x wait.NoReceiver h → (Drops call h → ⊥)
     → tells_no_receiver x (effect x call).0 ≡ false → WaitsFor (next x call) wait.NoReceiver h
